@@ -1,2 +1,3 @@
-// The enums, structs and constants that code and definition share. What they mean is in specs/.
+// The enums and constants that code and definition share. What they mean is in specs/.
 pub mod layout;
+pub mod records;

@@ -1,0 +1,405 @@
+-- Which files are accepted: refusals 1 to 6 of document 01 ("Refusals, in checking order"), each over the whole file before the next.
+use mathlib.Core.Bool.{Bool, true, false, not, _&&_, _||_}
+use mathlib.Core.List.{List, [], _∷_}
+use Prim.Native.Nat.{ℕ, zero, suc, _+_, _-_, _*_, _%_, _^_}
+use lib.Dec.{eqb, leb, ltb}
+use lib.ListN.{length, getD}
+use Rattle.definition.specs.declared.records.Shape.{Shape}
+use Rattle.definition.specs.declared.records.Shape.the-variants as shape
+use Rattle.definition.specs.declared.records.Declaration.{Declaration}
+use Rattle.definition.specs.declared.records.Declaration.the-variants as declaration
+use Rattle.definition.specs.declared.records.Initializer.{Initializer}
+use Rattle.definition.specs.declared.records.Initializer.the-variants as initializer
+use Rattle.definition.specs.declared.records.Entry.{Entry}
+use Rattle.definition.specs.declared.records.Entry.the-variants as entry
+use Rattle.definition.specs.declared.records.Expression.{Expression}
+use Rattle.definition.specs.declared.records.Expression.the-variants as expression
+use Rattle.definition.specs.Base.{choose, onLink, every, unused, inline}
+use Rattle.definition.specs.Layout.{settings, shapes, members, shapeFields, dimensions, types, blockFields, elements, variables, initializers, entries, expressions, constants, characters, mostRecords, countAt, count, word}
+use Rattle.definition.specs.Records.{shapeAt, declarationAt, namedType, initializerAt, entryAt, expressionAt}
+
+-- ---- 1: the words end before or after the last section does
+unfoldable pub endsRight : List ℕ → Bool
+endsRight f = eqb (countAt f 14) (length f)
+
+-- ---- 2: a section has more records than stated, or Settings not one
+unfoldable pub countsRight : List ℕ → Bool
+countsRight f = every (λ s. leb (count f s) (mostRecords s)) 14 && eqb (count f settings) 1
+
+-- ---- 3: a word, used numbers, links and runs aside, has a value that its record does not allow
+-- a name that must be there is not 0
+unfoldable pub isName : ℕ → Bool
+isName w = not (eqb w 0)
+
+unfoldable pub isBits : ℕ → Bool
+isBits w = eqb w 8 || eqb w 16 || eqb w 32 || eqb w 64
+
+-- two's complement words are in order where they are with 2 ^ 31 added
+unfoldable pub biased : ℕ → ℕ
+biased w = (w + 2 ^ 31) % 2 ^ 32
+
+unfoldable pub shapePlain : ℕ → ℕ → ℕ → ℕ → ℕ → Bool
+shapePlain kind a b c d =
+    let sized : Bool = isBits a && unused (b ∷ c ∷ d ∷ []) in
+    let name : Bool = isName a && unused (b ∷ c ∷ d ∷ []) in
+    getD (
+    unused (a ∷ b ∷ c ∷ d ∷ []) ∷
+    sized ∷ sized ∷ sized ∷ sized ∷ sized ∷ sized ∷ sized ∷ sized ∷
+    (leb b 1 && unused (c ∷ d ∷ [])) ∷
+    true ∷
+    unused (c ∷ d ∷ []) ∷
+    unused (d ∷ []) ∷
+    unused (d ∷ []) ∷
+    name ∷ name ∷
+    unused (b ∷ c ∷ d ∷ []) ∷
+    []) kind false
+
+unfoldable pub shapeFieldPlain : ℕ → ℕ → Bool
+shapeFieldPlain name hasDefault = isName name && leb hasDefault 1
+
+unfoldable pub dimensionPlain : ℕ → ℕ → Bool
+dimensionPlain lower upper = leb (biased lower) (biased upper)
+
+unfoldable pub typePlain : ℕ → ℕ → ℕ → ℕ → ℕ → Bool
+typePlain kind named start first many =
+    getD (
+    unused (named ∷ start ∷ first ∷ many ∷ []) ∷
+    unused (named ∷ first ∷ many ∷ []) ∷
+    unused (first ∷ many ∷ []) ∷
+    unused (named ∷ first ∷ many ∷ []) ∷
+    unused (start ∷ []) ∷
+    unused (named ∷ start ∷ []) ∷
+    unused (start ∷ first ∷ many ∷ []) ∷
+    unused (start ∷ first ∷ many ∷ []) ∷
+    unused (start ∷ first ∷ many ∷ []) ∷
+    unused (named ∷ start ∷ []) ∷
+    []) kind false
+
+unfoldable pub blockFieldPlain : ℕ → ℕ → Bool
+blockFieldPlain name kind = isName name && leb kind 3
+
+unfoldable pub initializerPlain : ℕ → ℕ → ℕ → ℕ → ℕ → ℕ → ℕ → ℕ → Bool
+initializerPlain kind named element value first many length width =
+    let none : Bool = unused (element ∷ value ∷ first ∷ many ∷ length ∷ width ∷ []) in
+    let valued : Bool = unused (element ∷ first ∷ many ∷ length ∷ width ∷ []) in
+    let listed : Bool = unused (element ∷ value ∷ length ∷ width ∷ []) in
+    getD (
+    none ∷ none ∷
+    valued ∷ valued ∷
+    (unused (element ∷ first ∷ many ∷ []) && leb width 1) ∷
+    valued ∷ valued ∷
+    listed ∷ listed ∷
+    (unused (value ∷ length ∷ width ∷ []) && (eqb named inline || eqb element 0)) ∷
+    (eqb named 0 && valued) ∷
+    valued ∷
+    none ∷ none ∷ none ∷
+    []) kind false
+
+unfoldable pub entryPlain : ℕ → ℕ → ℕ → Bool
+entryPlain kind a b = getD (unused (b ∷ []) ∷ isName a ∷ true ∷ true ∷ unused (b ∷ []) ∷ unused (a ∷ b ∷ []) ∷ true ∷ []) kind false
+
+unfoldable pub expressionPlain : ℕ → ℕ → Bool
+expressionPlain kind a = getD (true ∷ true ∷ true ∷ true ∷ unused (a ∷ []) ∷ unused (a ∷ []) ∷ unused (a ∷ []) ∷ []) kind false
+
+unfoldable pub constantPlain : ℕ → ℕ → ℕ → ℕ → ℕ → Bool
+constantPlain kind sign low high width =
+    let signed : Bool = eqb sign 0 || (eqb sign 1 && not (unused (low ∷ high ∷ []))) in
+    let wide : Bool = eqb sign 0 && leb width 1 in
+    getD (
+    (leb low 1 && unused (sign ∷ high ∷ width ∷ [])) ∷
+    (signed && unused (width ∷ [])) ∷
+    unused (sign ∷ width ∷ []) ∷
+    unused (sign ∷ width ∷ []) ∷
+    (signed && leb width 1) ∷
+    wide ∷ wide ∷ wide ∷ wide ∷
+    []) kind false
+
+-- the rule of each section, in the order of the file
+unfoldable pub plainRules : List ℕ → List (ℕ → Bool)
+plainRules f =
+    (λ n. leb (word f settings n 0) 65535) ∷
+    (λ n. shapePlain (word f shapes n 0) (word f shapes n 1) (word f shapes n 2) (word f shapes n 3) (word f shapes n 4)) ∷
+    (λ n. isName (word f members n 0)) ∷
+    (λ n. shapeFieldPlain (word f shapeFields n 0) (word f shapeFields n 2)) ∷
+    (λ n. dimensionPlain (word f dimensions n 0) (word f dimensions n 1)) ∷
+    (λ n. typePlain (word f types n 4) (word f types n 5) (word f types n 6) (word f types n 7) (word f types n 8)) ∷
+    (λ n. blockFieldPlain (word f blockFields n 0) (word f blockFields n 2)) ∷
+    (λ n. isName (word f elements n 0)) ∷
+    (λ n. leb (word f variables n 1) 5) ∷
+    (λ n. initializerPlain (word f initializers n 0) (word f initializers n 1) (word f initializers n 2) (word f initializers n 3)
+    (word f initializers n 4) (word f initializers n 5) (word f initializers n 6) (word f initializers n 7)) ∷
+    (λ n. entryPlain (word f entries n 0) (word f entries n 2) (word f entries n 3)) ∷
+    (λ n. expressionPlain (word f expressions n 0) (word f expressions n 1)) ∷
+    (λ n. constantPlain (word f constants n 0) (word f constants n 1) (word f constants n 2) (word f constants n 3) (word f constants n 4)) ∷
+    (λ n. true) ∷
+    []
+
+-- a rule for each section holds of every record
+unfoldable pub everyRecord : List ℕ → List (ℕ → Bool) → Bool
+everyRecord f rules = every (λ s. every (getD rules s (λ n. false)) (count f s)) 14
+
+unfoldable pub wordsRight : List ℕ → Bool
+wordsRight f = everyRecord f (plainRules f)
+
+-- ---- 4: a used number, link or run points outside its section or at a record not allowed there, or is 0 or empty against its rule
+unfoldable pub numberIn : List ℕ → ℕ → ℕ → Bool
+numberIn f s n = ltb n (count f s)
+
+unfoldable pub linkIn : List ℕ → ℕ → ℕ → Bool
+linkIn f s n = leb n (count f s)
+
+unfoldable pub runIn : List ℕ → ℕ → ℕ → ℕ → Bool
+runIn f s first many = leb (first + many) (count f s)
+
+-- a run inside its section, each of whose records meets a rule
+unfoldable pub runOf : List ℕ → ℕ → (ℕ → Bool) → ℕ → ℕ → Bool
+runOf f s rule first many = choose (runIn f s first many) (λ u. every (λ j. rule (first + j)) many) (λ u. false)
+
+-- a constant of a kind
+unfoldable pub constantIn : List ℕ → ℕ → ℕ → Bool
+constantIn f kind c = numberIn f constants c && eqb (word f constants c 0) kind
+
+-- no link, or one to a record that meets a rule
+unfoldable pub linkTo : (ℕ → Bool) → ℕ → Bool
+linkTo rule l = onLink l true rule
+
+-- where entries may stand: kinds 2 and 5 only in member lists, 6 only in arrays; member lists take named entries only, other places nameless ones
+unfoldable pub memberEntry : List ℕ → ℕ → Bool
+memberEntry f e = isName (word f entries e 1) && leb (word f entries e 0) 5
+
+unfoldable pub arrayEntry : List ℕ → ℕ → Bool
+arrayEntry f e = eqb (word f entries e 1) 0 && getD (true ∷ true ∷ false ∷ true ∷ true ∷ false ∷ true ∷ []) (word f entries e 0) false
+
+unfoldable pub enumeratedEntry : List ℕ → ℕ → Bool
+enumeratedEntry f e = numberIn f entries e && eqb (word f entries e 1) 0 && eqb (word f entries e 0) 1
+
+-- shapes point only to lower shapes
+unfoldable pub shapePoints : List ℕ → ℕ → Shape → Bool
+shapePoints f n shape.Bool = true
+shapePoints f n (shape.Int bits) = true
+shapePoints f n (shape.UInt bits) = true
+shapePoints f n (shape.Real bits) = true
+shapePoints f n (shape.Bytes bits) = true
+shapePoints f n (shape.Time bits) = true
+shapePoints f n (shape.Date bits) = true
+shapePoints f n (shape.TimeOfDay bits) = true
+shapePoints f n (shape.DateAndTime bits) = true
+shapePoints f n (shape.String length width) = true
+shapePoints f n (shape.Enumeration first many default underlying) = runIn f members first many && leb underlying n
+shapePoints f n (shape.Structure first many) = runOf f shapeFields (λ k. ltb (word f shapeFields k 1) n) first many
+shapePoints f n (shape.Array element first many) = ltb element n && runIn f dimensions first many && not (eqb many 0)
+shapePoints f n (shape.Subrange base least greatest) = ltb base n && constantIn f 1 least && constantIn f 1 greatest
+shapePoints f n (shape.FunctionBlock name) = true
+shapePoints f n (shape.Interface name) = true
+shapePoints f n (shape.Reference target) = ltb target n
+shapePoints f n shape.Unknown = false
+
+-- a type's name: a link, or inline where that is allowed
+unfoldable pub nameIn : List ℕ → ℕ → Bool
+nameIn f w = linkIn f types w
+
+unfoldable pub nameOrInline : List ℕ → ℕ → Bool
+nameOrInline f w = linkIn f types w || eqb w inline
+
+unfoldable pub declarationPoints : List ℕ → Declaration → Bool
+declarationPoints f declaration.Nothing = true
+declarationPoints f (declaration.Simple start) = onLink start false (numberIn f initializers)
+declarationPoints f (declaration.Subrange named start) = nameOrInline f named && linkTo (constantIn f 1) start
+declarationPoints f (declaration.String start) = linkTo (constantIn f 8) start
+declarationPoints f (declaration.Array named first many) = nameOrInline f named && runOf f entries (arrayEntry f) first many
+declarationPoints f (declaration.Structure first many) = runIn f elements first many
+declarationPoints f (declaration.Reference named) = nameIn f named
+declarationPoints f (declaration.Enumeration named) = nameIn f named
+declarationPoints f (declaration.LateBound named) = nameIn f named
+declarationPoints f (declaration.FunctionBlock first many) = runIn f variables first many
+declarationPoints f declaration.Unknown = false
+
+-- no block record is first 4294967295, count 0
+unfoldable pub blockPoints : List ℕ → ℕ → ℕ → Bool
+blockPoints f first many = runIn f blockFields first many || (eqb first inline && eqb many 0)
+
+unfoldable pub typePoints : List ℕ → ℕ → Bool
+typePoints f t =
+    numberIn f shapes (word f types t 0)
+    && linkIn f types (word f types t 1)
+    && linkIn f types (word f types t 2)
+    && linkIn f types (word f types t 3)
+    && declarationPoints f (declarationAt f t)
+    && blockPoints f (word f types t 9) (word f types t 10)
+
+unfoldable pub valuePoints : List ℕ → Initializer → Bool
+valuePoints f initializer.Nothing = true
+valuePoints f initializer.Interface = true
+valuePoints f (initializer.Subrange value) = linkTo (constantIn f 1) value
+valuePoints f (initializer.Simple value) = linkIn f constants value
+valuePoints f (initializer.String value length width) = linkTo (constantIn f 8) value
+valuePoints f (initializer.EnumeratedValues value) = linkTo (enumeratedEntry f) value
+valuePoints f (initializer.EnumeratedType value) = linkTo (enumeratedEntry f) value
+valuePoints f (initializer.FunctionBlock first many) = runOf f entries (memberEntry f) first many
+valuePoints f (initializer.Structure first many) = runOf f entries (memberEntry f) first many
+valuePoints f (initializer.Array first many) = runOf f entries (arrayEntry f) first many
+valuePoints f (initializer.Reference value) =
+    linkTo (λ x. numberIn f expressions x && (eqb (word f expressions x 0) 4 || eqb (word f expressions x 0) 5)) value
+valuePoints f (initializer.LateResolved value) = linkIn f constants value
+valuePoints f initializer.Call = true
+valuePoints f initializer.SimpleExpression = true
+valuePoints f initializer.StringExpression = true
+valuePoints f initializer.Unknown = false
+
+-- inline only in kinds 2 and 9
+unfoldable pub namesInline : ℕ → Bool
+namesInline kind = eqb kind 2 || eqb kind 9
+
+unfoldable pub initializerPoints : List ℕ → ℕ → Bool
+initializerPoints f i =
+    (nameIn f (namedType f i) || (namesInline (word f initializers i 0) && eqb (namedType f i) inline))
+    && linkIn f types (word f initializers i 2)
+    && valuePoints f (initializerAt f i)
+
+-- entries point only to lower entries; an empty run points at none
+unfoldable pub lowerRun : List ℕ → ℕ → (ℕ → Bool) → ℕ → ℕ → Bool
+lowerRun f e rule first many = runOf f entries rule first many && (leb (first + many) e || eqb many 0)
+
+unfoldable pub entryPoints : List ℕ → ℕ → Entry → Bool
+entryPoints f e (entry.Constant number) = numberIn f constants number
+entryPoints f e (entry.Enumerated value qualifier) = true
+entryPoints f e (entry.Array first many) = lowerRun f e (arrayEntry f) first many
+entryPoints f e (entry.Structure first many) = lowerRun f e (memberEntry f) first many
+entryPoints f e (entry.Expression number) = numberIn f expressions number
+entryPoints f e entry.LateBound = true
+entryPoints f e (entry.Repeat many inner) = linkTo (λ i. ltb i e && arrayEntry f i) inner
+entryPoints f e entry.Unknown = false
+
+-- parentheses and conversions point lower
+unfoldable pub expressionPoints : List ℕ → ℕ → Expression → Bool
+expressionPoints f x (expression.Constant number) = numberIn f constants number
+expressionPoints f x (expression.Enumerated e) = enumeratedEntry f e
+expressionPoints f x (expression.Parentheses inner) = ltb inner x
+expressionPoints f x (expression.Conversion inner) = ltb inner x
+expressionPoints f x expression.Null = true
+expressionPoints f x expression.Reference = true
+expressionPoints f x expression.Other = true
+expressionPoints f x expression.Unknown = false
+
+-- only a string points: at a run of characters
+unfoldable pub constantPoints : List ℕ → ℕ → ℕ → ℕ → Bool
+constantPoints f kind low high = not (eqb kind 8) || runIn f characters low high
+
+unfoldable pub pointRules : List ℕ → List (ℕ → Bool)
+pointRules f =
+    (λ n. true) ∷
+    (λ n. shapePoints f n (shapeAt f n)) ∷
+    (λ n. true) ∷
+    (λ n. numberIn f shapes (word f shapeFields n 1)) ∷
+    (λ n. true) ∷
+    (λ n. typePoints f n) ∷
+    (λ n. linkIn f types (word f blockFields n 1)) ∷
+    (λ n. numberIn f initializers (word f elements n 1)) ∷
+    (λ n. linkIn f types (word f variables n 2) && numberIn f initializers (word f variables n 3)) ∷
+    (λ n. initializerPoints f n) ∷
+    (λ n. entryPoints f n (entryAt f n)) ∷
+    (λ n. expressionPoints f n (expressionAt f n)) ∷
+    (λ n. constantPoints f (word f constants n 0) (word f constants n 2) (word f constants n 3)) ∷
+    (λ n. true) ∷
+    []
+
+unfoldable pub pointsRight : List ℕ → Bool
+pointsRight f = everyRecord f (pointRules f)
+
+-- ---- comparing shapes: for refusal 5, and as the Rust's `==` does
+-- two runs list the same
+unfoldable pub listed : (ℕ → ℕ → Bool) → ℕ → ℕ → ℕ → ℕ → Bool
+listed same a m b n = choose (eqb m n) (λ u. every (λ j. same (a + j) (b + j)) m) (λ u. false)
+
+unfoldable pub sameMember : List ℕ → ℕ → ℕ → Bool
+sameMember f m n = eqb (word f members m 0) (word f members n 0)
+
+unfoldable pub sameField : List ℕ → (ℕ → ℕ → Bool) → ℕ → ℕ → Bool
+sameField f same m n =
+    eqb (word f shapeFields m 0) (word f shapeFields n 0)
+    && same (word f shapeFields m 1) (word f shapeFields n 1)
+    && eqb (word f shapeFields m 2) (word f shapeFields n 2)
+
+unfoldable pub sameDimension : List ℕ → ℕ → ℕ → Bool
+sameDimension f m n = eqb (word f dimensions m 0) (word f dimensions n 0) && eqb (word f dimensions m 1) (word f dimensions n 1)
+
+-- two integer constants have one value
+unfoldable pub sameInteger : List ℕ → ℕ → ℕ → Bool
+sameInteger f c d =
+    eqb (word f constants c 1) (word f constants d 1) && eqb (word f constants c 2) (word f constants d 2) && eqb (word f constants c 3) (word f constants d 3)
+
+unfoldable pub sameLink : (ℕ → ℕ → Bool) → ℕ → ℕ → Bool
+sameLink same zero l = eqb l 0
+sameLink same (suc m) l = onLink l false (same m)
+
+-- a shape and the words a b c d of one of the same kind, where `same` compares the shapes inside and `enumerated` says whether members and default count
+unfoldable pub likeBy : List ℕ → (ℕ → ℕ → Bool) → Bool → Shape → ℕ → ℕ → ℕ → ℕ → Bool
+likeBy f same enumerated shape.Bool a b c d = true
+likeBy f same enumerated (shape.Int bits) a b c d = eqb bits a
+likeBy f same enumerated (shape.UInt bits) a b c d = eqb bits a
+likeBy f same enumerated (shape.Real bits) a b c d = eqb bits a
+likeBy f same enumerated (shape.Bytes bits) a b c d = eqb bits a
+likeBy f same enumerated (shape.Time bits) a b c d = eqb bits a
+likeBy f same enumerated (shape.Date bits) a b c d = eqb bits a
+likeBy f same enumerated (shape.TimeOfDay bits) a b c d = eqb bits a
+likeBy f same enumerated (shape.DateAndTime bits) a b c d = eqb bits a
+likeBy f same enumerated (shape.String length width) a b c d = eqb length a && eqb width b
+likeBy f same enumerated (shape.Enumeration first many default underlying) a b c d =
+    (not enumerated || (listed (sameMember f) first many a b && eqb default c)) && sameLink same underlying d
+likeBy f same enumerated (shape.Structure first many) a b c d = listed (sameField f same) first many a b
+likeBy f same enumerated (shape.Array element first many) a b c d = same element a && listed (sameDimension f) first many b c
+likeBy f same enumerated (shape.Subrange base least greatest) a b c d = same base a && sameInteger f least b && sameInteger f greatest c
+likeBy f same enumerated (shape.FunctionBlock name) a b c d = eqb name a
+likeBy f same enumerated (shape.Interface name) a b c d = eqb name a
+likeBy f same enumerated (shape.Reference target) a b c d = same target a
+likeBy f same enumerated shape.Unknown a b c d = false
+
+unfoldable pub shapesLike : List ℕ → (ℕ → ℕ → Bool) → Bool → ℕ → ℕ → Bool
+shapesLike f same enumerated m n =
+    choose (eqb (word f shapes m 0) (word f shapes n 0))
+    (λ u. likeBy f same enumerated (shapeAt f m) (word f shapes n 1) (word f shapes n 2) (word f shapes n 3) (word f shapes n 4))
+    (λ u. false)
+
+-- ---- 5: two shapes are alike: lower shapes by number, since no two of those are alike
+unfoldable pub alike : List ℕ → ℕ → ℕ → Bool
+alike f m n = shapesLike f eqb true m n
+
+unfoldable pub shapesDiffer : List ℕ → Bool
+shapesDiffer f = every (λ n. every (λ m. not (alike f m n)) n) (count f shapes)
+
+-- the Rust's `==` on representations (`EnumerationMembers` compares equal always): shapes nest less deep than their number
+unfoldable pub sameUpTo : List ℕ → ℕ → ℕ → ℕ → Bool
+sameUpTo f zero m n = false
+sameUpTo f (suc k) m n = shapesLike f (sameUpTo f k) false m n
+
+unfoldable pub sameShape : List ℕ → ℕ → ℕ → Bool
+sameShape f m n = sameUpTo f (count f shapes) m n
+
+-- ---- 6: an array shape has more than 65,536 elements
+unfoldable pub dimensionSpan : List ℕ → ℕ → ℕ
+dimensionSpan f n = biased (word f dimensions n 1) + 1 - biased (word f dimensions n 0)
+
+unfoldable pub elementsOf : List ℕ → ℕ → ℕ → ℕ
+elementsOf f first zero = 1
+elementsOf f first (suc k) = elementsOf f first k * dimensionSpan f (first + k)
+
+unfoldable pub arraySmall : List ℕ → ℕ → Bool
+arraySmall f n = choose (eqb (word f shapes n 0) 12) (λ u. leb (elementsOf f (word f shapes n 2) (word f shapes n 3)) 65536) (λ u. true)
+
+unfoldable pub arraysSmall : List ℕ → Bool
+arraysSmall f = every (arraySmall f) (count f shapes)
+
+-- ---- the first refusal of 1 to 6, or 0
+-- a refusal, unless its test holds; then what comes after it
+abbrev pub need : Bool → ℕ → (Unit {0} → ℕ) → ℕ
+need true k next = next tt
+need false k next = k
+
+unfoldable pub verdict : List ℕ → ℕ
+verdict f =
+    need (endsRight f) 1 λ u1.
+    need (countsRight f) 2 λ u2.
+    need (wordsRight f) 3 λ u3.
+    need (pointsRight f) 4 λ u4.
+    need (shapesDiffer f) 5 λ u5.
+    need (arraysSmall f) 6 λ u6. 0

@@ -1,0 +1,166 @@
+-- The starred examples of document 01: a file, a question and the answer that the paper gives, and one theorem over all rows.
+use mathlib.Core.Path.{_≡_, refl}
+use mathlib.Core.List.{List, [], _∷_, _++_, map}
+use Prim.Native.Nat.{ℕ}
+use lib.ListN.{length}
+use Rattle.definition.specs.Base.{inline}
+use Rattle.definition.specs.Accept.{verdict}
+use Rattle.definition.specs.Lines.{typeLine, variableLine}
+use Rattle.definition.specs.Uses.{ranksOf}
+use Rattle.definition.specs.Sheet.{onRanking}
+use Rattle.definition.specs.Computing.{computing}
+
+-- ---- files, section by section
+abbrev Records : Type 0
+Records = List (List ℕ)
+
+joinAll : Records → List ℕ
+joinAll [] = []
+joinAll (r ∷ rs) = r ++ joinAll rs
+
+section : Records → List ℕ
+section rs = length rs ∷ joinAll rs
+
+sections : List Records → List ℕ
+sections [] = []
+sections (s ∷ ss) = section s ++ sections ss
+
+-- the fourteen sections; of Settings only the default string length
+file : ℕ → Records → Records → Records → Records → Records → Records → Records → Records → Records → List ℕ
+file length shapes dimensions types variables initializers entries expressions constants characters =
+    sections (
+    ((length ∷ []) ∷ []) ∷ shapes ∷ [] ∷ [] ∷ dimensions ∷ types ∷ [] ∷ [] ∷ variables ∷ initializers ∷ entries ∷ expressions ∷ constants ∷ characters ∷ [])
+
+-- ---- records
+bool : List ℕ
+bool = 0 ∷ 0 ∷ 0 ∷ 0 ∷ 0 ∷ []
+
+int : ℕ → List ℕ
+int bits = 1 ∷ bits ∷ 0 ∷ 0 ∷ 0 ∷ []
+
+real : List ℕ
+real = 3 ∷ 32 ∷ 0 ∷ 0 ∷ 0 ∷ []
+
+-- a type of a shape that nothing declares; its element type as a link
+type : ℕ → ℕ → List ℕ
+type shape element = shape ∷ 0 ∷ element ∷ 0 ∷ 0 ∷ 0 ∷ 0 ∷ 0 ∷ 0 ∷ inline ∷ 0 ∷ []
+
+-- an internal variable of type t with initializer 0
+variable : ℕ → List ℕ
+variable t = 1 ∷ 4 ∷ t ∷ 0 ∷ []
+
+integer : ℕ → ℕ → List ℕ
+integer sign size = 1 ∷ sign ∷ size ∷ 0 ∷ 0 ∷ []
+
+true-literal : List ℕ
+true-literal = 0 ∷ 0 ∷ 1 ∷ 0 ∷ 0 ∷ []
+
+-- a variable of ARRAY 1..3 OF INT whose initializer lists the last `many` of the entries
+array-123 : Records → ℕ → ℕ → List ℕ
+array-123 entries first many =
+    file 254 (int 16 ∷ (12 ∷ 0 ∷ 0 ∷ 1 ∷ 0 ∷ []) ∷ []) ((1 ∷ 3 ∷ []) ∷ []) (type 0 0 ∷ type 1 1 ∷ []) (variable 2 ∷ [])
+    ((9 ∷ 2 ∷ 0 ∷ 0 ∷ first ∷ many ∷ 0 ∷ 0 ∷ []) ∷ []) entries [] (integer 0 5 ∷ integer 0 7 ∷ true-literal ∷ []) []
+
+constant-entry : ℕ → List ℕ
+constant-entry c = 0 ∷ 0 ∷ c ∷ 0 ∷ []
+
+repeat-entry : ℕ → ℕ → List ℕ
+repeat-entry many inner = 6 ∷ 0 ∷ many ∷ inner ∷ []
+
+-- a variable of an elementary type with a constant
+simple : List ℕ → List ℕ → List ℕ
+simple shape constant = file 254 (shape ∷ []) [] (type 0 0 ∷ []) (variable 1 ∷ []) ((3 ∷ 1 ∷ 0 ∷ 1 ∷ 0 ∷ 0 ∷ 0 ∷ 0 ∷ []) ∷ []) [] [] (constant ∷ []) []
+
+-- s : STRING[3] := 'ABCD'
+string-3 : List ℕ
+string-3 =
+    file 254 [] [] [] (variable 0 ∷ []) ((4 ∷ 0 ∷ 0 ∷ 1 ∷ 0 ∷ 0 ∷ 4 ∷ 0 ∷ []) ∷ []) [] [] ((8 ∷ 0 ∷ 0 ∷ 4 ∷ 0 ∷ []) ∷ [])
+    ((65 ∷ []) ∷ (66 ∷ []) ∷ (67 ∷ []) ∷ (68 ∷ []) ∷ [])
+
+-- a subrange 1..9 of the type that the link names, with start value 5; and a simple alias of the type that the link names
+subrange-of : ℕ → List ℕ
+subrange-of base = 1 ∷ 0 ∷ 0 ∷ 0 ∷ 2 ∷ base ∷ 3 ∷ 0 ∷ 0 ∷ inline ∷ 0 ∷ []
+
+alias-of : ℕ → List ℕ
+alias-of base = 1 ∷ base ∷ 0 ∷ 0 ∷ 1 ∷ 0 ∷ 1 ∷ 0 ∷ 0 ∷ inline ∷ 0 ∷ []
+
+subrange-and-alias : Records → ℕ → List ℕ
+subrange-and-alias types base =
+    file 254 (int 16 ∷ (13 ∷ 0 ∷ 0 ∷ 1 ∷ 0 ∷ []) ∷ []) [] types [] ((3 ∷ base ∷ 0 ∷ 0 ∷ 0 ∷ 0 ∷ 0 ∷ 0 ∷ []) ∷ []) [] [] (integer 0 1 ∷ integer 0 9 ∷ integer 0 5 ∷ []) []
+
+-- ---- questions and answers
+data Question : Type 0 where
+  typeIs : ℕ → Question
+  variableIs : ℕ → Question
+  writing : Question
+
+-- what is asked of a file: a type's or a variable's fixed words, or whether the writer refuses it by 9
+asked : Question → List ℕ → List ℕ
+asked (typeIs t) f = typeLine f t
+asked (variableIs v) f = variableLine f v
+asked writing f = onRanking (ranksOf f) (λ w. []) (9 ∷ [])
+
+record Row : Type 0 where
+  about : List ℕ
+  question : Question
+  is : List ℕ
+
+row : List ℕ → Question → List ℕ → Row
+row f q a = record { about = f; question = q; is = a }
+
+none : List ℕ
+none = 1 ∷ 0 ∷ []
+
+-- one node
+leaf : ℕ → ℕ → ℕ → ℕ → List ℕ
+leaf kind sign low high = 0 ∷ 1 ∷ 0 ∷ kind ∷ sign ∷ low ∷ high ∷ 0 ∷ []
+
+-- three INTs
+three : ℕ → ℕ → ℕ → List ℕ
+three a b c =
+    0 ∷ 4 ∷ 0 ∷ 13 ∷ 0 ∷ 3 ∷ 0 ∷ 0 ∷ 0 ∷ 1 ∷ 0 ∷ a ∷ 0 ∷ 0 ∷ 0 ∷ 1 ∷ 0 ∷ b ∷ 0 ∷ 0 ∷ 0 ∷ 1 ∷ 0 ∷ c ∷ 0 ∷ 0 ∷ []
+
+rows : List Row
+rows =
+    -- Array 1..3 of INT: [5] is 5,0,0
+    row (array-123 (constant-entry 0 ∷ []) 0 1) (variableIs 0) (three 5 0 0) ∷
+    -- [5,2(7)] is 5,7,7
+    row (array-123 (constant-entry 1 ∷ constant-entry 0 ∷ repeat-entry 2 1 ∷ []) 1 2) (variableIs 0) (three 5 7 7) ∷
+    -- [5,3(7)] none
+    row (array-123 (constant-entry 1 ∷ constant-entry 0 ∷ repeat-entry 3 1 ∷ []) 1 2) (variableIs 0) none ∷
+    -- [3()] is 0,0,0
+    row (array-123 (repeat-entry 3 0 ∷ []) 0 1) (variableIs 0) (three 0 0 0) ∷
+    -- [4()] none
+    row (array-123 (repeat-entry 4 0 ∷ []) 0 1) (variableIs 0) none ∷
+    -- [0(TRUE)] none
+    row (array-123 (constant-entry 2 ∷ repeat-entry 0 1 ∷ []) 1 1) (variableIs 0) none ∷
+    -- BOOL 1 is TRUE; 2 and bit string 1 none
+    row (simple bool (integer 0 1)) (variableIs 0) (leaf 0 0 1 0) ∷
+    row (simple bool (integer 0 2)) (variableIs 0) none ∷
+    row (simple bool (2 ∷ 0 ∷ 1 ∷ 0 ∷ 0 ∷ [])) (variableIs 0) none ∷
+    -- SINT -128 fits; -129 none
+    row (simple (int 8) (integer 1 128)) (variableIs 0) (leaf 1 1 128 0) ∷
+    row (simple (int 8) (integer 1 129)) (variableIs 0) none ∷
+    -- STRING[3] 'ABCD' is 'ABC'
+    row string-3 (variableIs 0) (leaf 8 0 0 3) ∷
+    -- REAL 16777217 is 16777216, whose f64 has the bits 0x4170000000000000
+    row (simple real (integer 0 16777217)) (variableIs 0) (leaf 3 0 0 0x41700000) ∷
+    -- Type 0 a subrange 1..9 named type 1 with start value 5, type 1 a simple alias of 0: 5 and none
+    row (subrange-and-alias (subrange-of 2 ∷ alias-of 1 ∷ []) 1) (typeIs 0) (leaf 1 0 5 0) ∷
+    row (subrange-and-alias (subrange-of 2 ∷ alias-of 1 ∷ []) 1) (typeIs 1) none ∷
+    -- numbered the other way both are 5
+    row (subrange-and-alias (alias-of 2 ∷ subrange-of 1 ∷ []) 2) (typeIs 0) (leaf 1 0 5 0) ∷
+    row (subrange-and-alias (alias-of 2 ∷ subrange-of 1 ∷ []) 2) (typeIs 1) (leaf 1 0 5 0) ∷
+    -- 9 either way
+    row (subrange-and-alias (subrange-of 2 ∷ alias-of 1 ∷ []) 1) writing (9 ∷ []) ∷
+    row (subrange-and-alias (alias-of 2 ∷ subrange-of 1 ∷ []) 2) writing (9 ∷ []) ∷
+    []
+
+-- ---- every row's file is accepted, and every answer is the paper's
+accepted : map (λ r. verdict (r .about)) rows ≡ map (λ r. 0) rows
+unfolding computing rows row file sections section joinAll bool int real type variable integer true-literal array-123 constant-entry repeat-entry simple string-3 subrange-of alias-of subrange-and-alias
+accepted = refl
+
+starred : map (λ r. asked (r .question) (r .about)) rows ≡ map (λ r. r .is) rows
+unfolding computing asked rows row none leaf three file sections section joinAll bool int real type variable integer true-literal array-123 constant-entry repeat-entry simple string-3 subrange-of alias-of subrange-and-alias
+starred = refl

@@ -1,0 +1,1 @@
+// What follows from the definition: laws that later crates cite. They stand in specs/.
