@@ -6,17 +6,9 @@ use lib.Dec.{eqb, leb, ltb}
 use lib.ListN.{length, getD}
 use Rattle.definition.specs.declared.records.Shape.{Shape}
 use Rattle.definition.specs.declared.records.Shape.the-variants as shape
-use Rattle.definition.specs.declared.records.Declaration.{Declaration}
-use Rattle.definition.specs.declared.records.Declaration.the-variants as declaration
-use Rattle.definition.specs.declared.records.Initializer.{Initializer}
-use Rattle.definition.specs.declared.records.Initializer.the-variants as initializer
-use Rattle.definition.specs.declared.records.Entry.{Entry}
-use Rattle.definition.specs.declared.records.Entry.the-variants as entry
-use Rattle.definition.specs.declared.records.Expression.{Expression}
-use Rattle.definition.specs.declared.records.Expression.the-variants as expression
 use Rattle.definition.specs.Base.{choose, onLink, every, unused, inline}
 use Rattle.definition.specs.Layout.{settings, shapes, members, shapeFields, dimensions, types, blockFields, elements, variables, initializers, entries, expressions, constants, characters, mostRecords, countAt, count, word}
-use Rattle.definition.specs.Records.{shapeAt, declarationAt, namedType, initializerAt, entryAt, expressionAt}
+use Rattle.definition.specs.Records.{shapeAt}
 
 -- ---- 1: the words end before or after the last section does
 unfoldable pub endsRight : List ℕ → Bool
@@ -174,45 +166,34 @@ unfoldable pub enumeratedEntry : List ℕ → ℕ → Bool
 enumeratedEntry f e = numberIn f entries e && eqb (word f entries e 1) 0 && eqb (word f entries e 0) 1
 
 -- shapes point only to lower shapes
-unfoldable pub shapePoints : List ℕ → ℕ → Shape → Bool
-shapePoints f n shape.Bool = true
-shapePoints f n (shape.Int bits) = true
-shapePoints f n (shape.UInt bits) = true
-shapePoints f n (shape.Real bits) = true
-shapePoints f n (shape.Bytes bits) = true
-shapePoints f n (shape.Time bits) = true
-shapePoints f n (shape.Date bits) = true
-shapePoints f n (shape.TimeOfDay bits) = true
-shapePoints f n (shape.DateAndTime bits) = true
-shapePoints f n (shape.String length width) = true
-shapePoints f n (shape.Enumeration first many default underlying) = runIn f members first many && leb underlying n
-shapePoints f n (shape.Structure first many) = runOf f shapeFields (λ k. ltb (word f shapeFields k 1) n) first many
-shapePoints f n (shape.Array element first many) = ltb element n && runIn f dimensions first many && not (eqb many 0)
-shapePoints f n (shape.Subrange base least greatest) = ltb base n && constantIn f 1 least && constantIn f 1 greatest
-shapePoints f n (shape.FunctionBlock name) = true
-shapePoints f n (shape.Interface name) = true
-shapePoints f n (shape.Reference target) = ltb target n
-shapePoints f n shape.Unknown = false
+unfoldable pub shapePoints : List ℕ → ℕ → ℕ → ℕ → ℕ → ℕ → ℕ → Bool
+shapePoints f n kind a b c d =
+    getD (
+      true ∷ true ∷ true ∷ true ∷ true ∷ true ∷ true ∷ true ∷ true ∷ true ∷
+      (runIn f members a b && leb d n) ∷
+      runOf f shapeFields (λ k. ltb (word f shapeFields k 1) n) a b ∷
+      (ltb a n && runIn f dimensions b c && not (eqb c 0)) ∷
+      (ltb a n && constantIn f 1 b && constantIn f 1 c) ∷
+      true ∷ true ∷
+      ltb a n ∷
+      []) kind false
 
 -- a type's name: a link, or inline where that is allowed
-unfoldable pub nameIn : List ℕ → ℕ → Bool
-nameIn f w = linkIn f types w
+unfoldable pub nameIn : List ℕ → Bool → ℕ → Bool
+nameIn f inlined w = linkIn f types w || (inlined && eqb w inline)
 
-unfoldable pub nameOrInline : List ℕ → ℕ → Bool
-nameOrInline f w = linkIn f types w || eqb w inline
-
-unfoldable pub declarationPoints : List ℕ → Declaration → Bool
-declarationPoints f declaration.Nothing = true
-declarationPoints f (declaration.Simple start) = onLink start false (numberIn f initializers)
-declarationPoints f (declaration.Subrange named start) = nameOrInline f named && linkTo (constantIn f 1) start
-declarationPoints f (declaration.String start) = linkTo (constantIn f 8) start
-declarationPoints f (declaration.Array named first many) = nameOrInline f named && runOf f entries (arrayEntry f) first many
-declarationPoints f (declaration.Structure first many) = runIn f elements first many
-declarationPoints f (declaration.Reference named) = nameIn f named
-declarationPoints f (declaration.Enumeration named) = nameIn f named
-declarationPoints f (declaration.LateBound named) = nameIn f named
-declarationPoints f (declaration.FunctionBlock first many) = runIn f variables first many
-declarationPoints f declaration.Unknown = false
+unfoldable pub declarationPoints : List ℕ → ℕ → ℕ → ℕ → ℕ → ℕ → Bool
+declarationPoints f kind name start first many =
+    getD (
+      true ∷
+      onLink start false (numberIn f initializers) ∷
+      (nameIn f true name && linkTo (constantIn f 1) start) ∷
+      linkTo (constantIn f 8) start ∷
+      (nameIn f true name && runOf f entries (arrayEntry f) first many) ∷
+      runIn f elements first many ∷
+      nameIn f false name ∷ nameIn f false name ∷ nameIn f false name ∷
+      runIn f variables first many ∷
+      []) kind false
 
 -- no block record is first 4294967295, count 0
 unfoldable pub blockPoints : List ℕ → ℕ → ℕ → Bool
@@ -224,62 +205,58 @@ typePoints f t =
     && linkIn f types (word f types t 1)
     && linkIn f types (word f types t 2)
     && linkIn f types (word f types t 3)
-    && declarationPoints f (declarationAt f t)
+    && declarationPoints f (word f types t 4) (word f types t 5) (word f types t 6) (word f types t 7) (word f types t 8)
     && blockPoints f (word f types t 9) (word f types t 10)
 
-unfoldable pub valuePoints : List ℕ → Initializer → Bool
-valuePoints f initializer.Nothing = true
-valuePoints f initializer.Interface = true
-valuePoints f (initializer.Subrange value) = linkTo (constantIn f 1) value
-valuePoints f (initializer.Simple value) = linkIn f constants value
-valuePoints f (initializer.String value length width) = linkTo (constantIn f 8) value
-valuePoints f (initializer.EnumeratedValues value) = linkTo (enumeratedEntry f) value
-valuePoints f (initializer.EnumeratedType value) = linkTo (enumeratedEntry f) value
-valuePoints f (initializer.FunctionBlock first many) = runOf f entries (memberEntry f) first many
-valuePoints f (initializer.Structure first many) = runOf f entries (memberEntry f) first many
-valuePoints f (initializer.Array first many) = runOf f entries (arrayEntry f) first many
-valuePoints f (initializer.Reference value) =
-    linkTo (λ x. numberIn f expressions x && (eqb (word f expressions x 0) 4 || eqb (word f expressions x 0) 5)) value
-valuePoints f (initializer.LateResolved value) = linkIn f constants value
-valuePoints f initializer.Call = true
-valuePoints f initializer.SimpleExpression = true
-valuePoints f initializer.StringExpression = true
-valuePoints f initializer.Unknown = false
+-- a reference's value is an expression of kind 4 or 5
+unfoldable pub referencePoints : List ℕ → ℕ → Bool
+referencePoints f x = numberIn f expressions x && (eqb (word f expressions x 0) 4 || eqb (word f expressions x 0) 5)
+
+unfoldable pub valuePoints : List ℕ → ℕ → ℕ → ℕ → ℕ → Bool
+valuePoints f kind value first many =
+    let constant : ℕ → Bool = λ k. linkTo (constantIn f k) value in
+    let enumerated : Bool = linkTo (enumeratedEntry f) value in
+    let listed : Bool = runOf f entries (memberEntry f) first many in
+    getD (
+      true ∷ true ∷
+      constant 1 ∷
+      linkIn f constants value ∷
+      constant 8 ∷
+      enumerated ∷ enumerated ∷
+      listed ∷ listed ∷
+      runOf f entries (arrayEntry f) first many ∷
+      linkTo (referencePoints f) value ∷
+      linkIn f constants value ∷
+      true ∷ true ∷ true ∷
+      []) kind false
 
 -- inline only in kinds 2 and 9
-unfoldable pub namesInline : ℕ → Bool
-namesInline kind = eqb kind 2 || eqb kind 9
-
 unfoldable pub initializerPoints : List ℕ → ℕ → Bool
 initializerPoints f i =
-    (nameIn f (namedType f i) || (namesInline (word f initializers i 0) && eqb (namedType f i) inline))
+    let kind : ℕ = word f initializers i 0 in
+    nameIn f (eqb kind 2 || eqb kind 9) (word f initializers i 1)
     && linkIn f types (word f initializers i 2)
-    && valuePoints f (initializerAt f i)
+    && valuePoints f kind (word f initializers i 3) (word f initializers i 4) (word f initializers i 5)
 
 -- entries point only to lower entries; an empty run points at none
 unfoldable pub lowerRun : List ℕ → ℕ → (ℕ → Bool) → ℕ → ℕ → Bool
 lowerRun f e rule first many = runOf f entries rule first many && (leb (first + many) e || eqb many 0)
 
-unfoldable pub entryPoints : List ℕ → ℕ → Entry → Bool
-entryPoints f e (entry.Constant number) = numberIn f constants number
-entryPoints f e (entry.Enumerated value qualifier) = true
-entryPoints f e (entry.Array first many) = lowerRun f e (arrayEntry f) first many
-entryPoints f e (entry.Structure first many) = lowerRun f e (memberEntry f) first many
-entryPoints f e (entry.Expression number) = numberIn f expressions number
-entryPoints f e entry.LateBound = true
-entryPoints f e (entry.Repeat many inner) = linkTo (λ i. ltb i e && arrayEntry f i) inner
-entryPoints f e entry.Unknown = false
+unfoldable pub entryPoints : List ℕ → ℕ → ℕ → ℕ → ℕ → Bool
+entryPoints f e kind a b =
+    getD (
+      numberIn f constants a ∷
+      true ∷
+      lowerRun f e (arrayEntry f) a b ∷
+      lowerRun f e (memberEntry f) a b ∷
+      numberIn f expressions a ∷
+      true ∷
+      linkTo (λ i. ltb i e && arrayEntry f i) b ∷
+      []) kind false
 
 -- parentheses and conversions point lower
-unfoldable pub expressionPoints : List ℕ → ℕ → Expression → Bool
-expressionPoints f x (expression.Constant number) = numberIn f constants number
-expressionPoints f x (expression.Enumerated e) = enumeratedEntry f e
-expressionPoints f x (expression.Parentheses inner) = ltb inner x
-expressionPoints f x (expression.Conversion inner) = ltb inner x
-expressionPoints f x expression.Null = true
-expressionPoints f x expression.Reference = true
-expressionPoints f x expression.Other = true
-expressionPoints f x expression.Unknown = false
+unfoldable pub expressionPoints : List ℕ → ℕ → ℕ → ℕ → Bool
+expressionPoints f x kind a = getD (numberIn f constants a ∷ enumeratedEntry f a ∷ ltb a x ∷ ltb a x ∷ true ∷ true ∷ true ∷ []) kind false
 
 -- only a string points: at a run of characters
 unfoldable pub constantPoints : List ℕ → ℕ → ℕ → ℕ → Bool
@@ -288,7 +265,7 @@ constantPoints f kind low high = not (eqb kind 8) || runIn f characters low high
 unfoldable pub pointRules : List ℕ → List (ℕ → Bool)
 pointRules f =
     (λ n. true) ∷
-    (λ n. shapePoints f n (shapeAt f n)) ∷
+    (λ n. shapePoints f n (word f shapes n 0) (word f shapes n 1) (word f shapes n 2) (word f shapes n 3) (word f shapes n 4)) ∷
     (λ n. true) ∷
     (λ n. numberIn f shapes (word f shapeFields n 1)) ∷
     (λ n. true) ∷
@@ -297,8 +274,8 @@ pointRules f =
     (λ n. numberIn f initializers (word f elements n 1)) ∷
     (λ n. linkIn f types (word f variables n 2) && numberIn f initializers (word f variables n 3)) ∷
     (λ n. initializerPoints f n) ∷
-    (λ n. entryPoints f n (entryAt f n)) ∷
-    (λ n. expressionPoints f n (expressionAt f n)) ∷
+    (λ n. entryPoints f n (word f entries n 0) (word f entries n 2) (word f entries n 3)) ∷
+    (λ n. expressionPoints f n (word f expressions n 0) (word f expressions n 1)) ∷
     (λ n. constantPoints f (word f constants n 0) (word f constants n 2) (word f constants n 3)) ∷
     (λ n. true) ∷
     []

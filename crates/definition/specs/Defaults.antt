@@ -4,8 +4,6 @@ use mathlib.Core.Bool.{Bool, true, false, not, _&&_, _||_}
 use mathlib.Core.List.{List, [], _∷_}
 use Prim.Native.Nat.{ℕ, zero, suc, _+_, _*_}
 use lib.Dec.{eqb, leb}
-use Rattle.definition.specs.declared.records.Shape.{Shape}
-use Rattle.definition.specs.declared.records.Shape.the-variants as shape
 use Rattle.definition.specs.declared.records.Declaration.{Declaration}
 use Rattle.definition.specs.declared.records.Declaration.the-variants as decl
 use Rattle.definition.specs.declared.records.Initializer.{Initializer}
@@ -19,7 +17,7 @@ use Rattle.definition.specs.Tree.{Tree, Trees, tnil, tcons, head, parts,
 use Rattle.definition.specs.Ask.{Result, ok, none, large, Outcome, Ask, done, ask, bind, _>>=_, give, nothing, typeDefault, formed, gathered}
 use Rattle.definition.specs.Iec.{implicitScalar, filled, assigned}
 use Rattle.definition.specs.Scalar.{constantValue, enumeratedValue, expressionValue, emptyString}
-use Rattle.definition.specs.Shapes.{onArray}
+use Rattle.definition.specs.Shapes.{onShape, onArray}
 use Rattle.definition.specs.Places.{Place, placeOf, elementPlace, leafPlace, fieldPlace, namesIn, blockFieldNames, variablePlace}
 
 -- how a place starts
@@ -83,25 +81,17 @@ fieldsBy f default place [] fields = give (structureTree fields)
 fieldsBy f default place (name ∷ names) fields =
     done (fieldPlace f place name) >>= default >>= λ t. gathered (join fields (one (named name t))) >>= fieldsBy f default place names
 
-unfoldable pub implicitBy : List ℕ → Starts → Place → Shape → Ask Outcome
-implicitBy f default place shape.Bool = done (implicitScalar f shape.Bool)
-implicitBy f default place (shape.Int bits) = done (implicitScalar f (shape.Int bits))
-implicitBy f default place (shape.UInt bits) = done (implicitScalar f (shape.UInt bits))
-implicitBy f default place (shape.Real bits) = done (implicitScalar f (shape.Real bits))
-implicitBy f default place (shape.Bytes bits) = done (implicitScalar f (shape.Bytes bits))
-implicitBy f default place (shape.Time bits) = done (implicitScalar f (shape.Time bits))
-implicitBy f default place (shape.Date bits) = done (implicitScalar f (shape.Date bits))
-implicitBy f default place (shape.TimeOfDay bits) = done (implicitScalar f (shape.TimeOfDay bits))
-implicitBy f default place (shape.DateAndTime bits) = done (implicitScalar f (shape.DateAndTime bits))
-implicitBy f default place (shape.String length width) = done (emptyString f length width)
-implicitBy f default place (shape.Enumeration first count start underlying) = done (implicitScalar f (shape.Enumeration first count start underlying))
-implicitBy f default place (shape.Structure first count) = fieldsBy f default place (namesIn f first count) tnil
-implicitBy f default place (shape.Array s first count) = arrayBy f default place (λ leaf defaults values. give values)
-implicitBy f default place (shape.Subrange base low high) = done (implicitScalar f (shape.Subrange base low high))
-implicitBy f default place (shape.FunctionBlock name) = done (blockFieldNames f place) >>= λ names. fieldsBy f default place names tnil
-implicitBy f default place (shape.Interface name) = nothing
-implicitBy f default place (shape.Reference target) = give nullTree
-implicitBy f default place shape.Unknown = nothing
+unfoldable pub implicitBy : List ℕ → Starts → Starts
+implicitBy f default place =
+    let scalar : Unit {0} → Ask Outcome = λ u. done (implicitScalar f (place .shape)) in
+    onShape (place .shape)
+    (λ length width. done (emptyString f length width))
+    (λ first many. scalar tt)
+    (λ first many. fieldsBy f default place (namesIn f first many) tnil)
+    (λ s first many. arrayBy f default place (λ leaf defaults values. give values))
+    (λ u. done (blockFieldNames f place) >>= λ names. fieldsBy f default place names tnil)
+    (λ u. give nullTree)
+    scalar
 
 -- a place starts at its type's default, or at the implicit default of its shape (`default_of`)
 unfoldable pub defaultBy : Starts → Starts
@@ -110,7 +100,7 @@ defaultBy implicit place = ifStated (place .type) (λ u. implicit place) typeDef
 -- the places inside have lower shapes, so that there are at most as many levels as shapes, and one for a string that has none
 unfoldable pub implicitUpTo : List ℕ → ℕ → Starts
 implicitUpTo f zero place = nothing
-implicitUpTo f (suc k) place = implicitBy f (defaultBy (implicitUpTo f k)) place (place .shape)
+implicitUpTo f (suc k) place = implicitBy f (defaultBy (implicitUpTo f k)) place
 
 unfoldable pub implicit : List ℕ → Starts
 implicit f place = implicitUpTo f (suc (count f shapes)) place

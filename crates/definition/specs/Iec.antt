@@ -7,11 +7,9 @@ use lib.IntN.{ℤ, pos, negℤ}
 use lib.Signed.{leZ}
 use Rattle.definition.specs.declared.records.Shape.{Shape}
 use Rattle.definition.specs.declared.records.Shape.the-variants as shape
-use Rattle.definition.specs.declared.records.Constant.{Constant}
-use Rattle.definition.specs.declared.records.Constant.the-variants as constant
 use Rattle.definition.specs.Base.{pick}
 use Rattle.definition.specs.Layout.{word, members}
-use Rattle.definition.specs.Records.{constantAt}
+use Rattle.definition.specs.Records.{constantOf, constantAt}
 use Rattle.definition.specs.Tree.{Tree, Trees, many, join, rest, replaced, named, constantTree, enumeratedTree}
 use Rattle.definition.specs.Ask.{Result, ok, none, Outcome}
 
@@ -44,17 +42,21 @@ long bits = pick (eqb bits 64) 1 0
 unfoldable pub defaultMember : List ℕ → ℕ → ℕ → ℕ → Outcome
 defaultMember f first count default = pick (ltb default count) (ok (enumeratedTree (word f members (first + default) 0) 0)) none
 
+-- zero, as a constant of a kind
+unfoldable pub zeroOf : ℕ → ℕ → Outcome
+zeroOf kind width = ok (constantTree (constantOf kind 0 0 0 width))
+
 -- 6.4.4.4: a subrange starts at its lower limit
 unfoldable pub implicitScalar : List ℕ → Shape → Outcome
-implicitScalar f shape.Bool = ok (constantTree (constant.Boolean 0))
-implicitScalar f (shape.Int bits) = ok (constantTree (constant.Integer false 0))
-implicitScalar f (shape.UInt bits) = ok (constantTree (constant.Integer false 0))
-implicitScalar f (shape.Real bits) = ok (constantTree (constant.Real 0))
-implicitScalar f (shape.Bytes bits) = ok (constantTree (constant.Integer false 0))
-implicitScalar f (shape.Time bits) = ok (constantTree (constant.Duration false 0 (long bits)))
-implicitScalar f (shape.Date bits) = ok (constantTree (constant.Date 0 (long bits)))
-implicitScalar f (shape.TimeOfDay bits) = ok (constantTree (constant.TimeOfDay 0 (long bits)))
-implicitScalar f (shape.DateAndTime bits) = ok (constantTree (constant.DateAndTime 0 (long bits)))
+implicitScalar f shape.Bool = zeroOf 0 0
+implicitScalar f (shape.Int bits) = zeroOf 1 0
+implicitScalar f (shape.UInt bits) = zeroOf 1 0
+implicitScalar f (shape.Real bits) = zeroOf 3 0
+implicitScalar f (shape.Bytes bits) = zeroOf 1 0
+implicitScalar f (shape.Time bits) = zeroOf 4 (long bits)
+implicitScalar f (shape.Date bits) = zeroOf 6 (long bits)
+implicitScalar f (shape.TimeOfDay bits) = zeroOf 5 (long bits)
+implicitScalar f (shape.DateAndTime bits) = zeroOf 7 (long bits)
 implicitScalar f (shape.String length width) = none
 implicitScalar f (shape.Enumeration first count default underlying) = defaultMember f first count default
 implicitScalar f (shape.Structure first count) = none

@@ -105,8 +105,8 @@ fieldPlace f place name =
     onShape (place .shape) (λ a b. none) (λ a b. none)
     (λ first many. onLink (firstNamed f shapeFields name first many) none (λ k. ok (structureFieldPlace f place name (word f shapeFields k 1))))
     (λ s a b. none)
-    (onLink (place .type) none (λ t. onLink (blockFieldType f t name) none (λ d. ok (placeOf f d))))
-    none none
+    (λ u. onLink (place .type) none (λ t. onLink (blockFieldType f t name) none (λ d. ok (placeOf f d))))
+    (λ u. none) (λ u. none)
 
 -- the names of a block's fields but for in-outs, and of a structure's (`field_names`)
 unfoldable pub namesIn : List ℕ → ℕ → ℕ → List ℕ

@@ -1,8 +1,6 @@
 -- One record as a value of its enum, from its words (document 01, "Sections, their makers and readers"). Kinds are listed in the paper's order.
 use mathlib.Core.List.{List, [], _∷_}
-use mathlib.Core.Bool.{Bool, true, false}
 use Prim.Native.Nat.{ℕ}
-use lib.Dec.{eqb}
 use lib.ListN.{getD}
 use Rattle.definition.specs.declared.records.Shape.{Shape}
 use Rattle.definition.specs.declared.records.Shape.the-variants as shape
@@ -15,8 +13,6 @@ use Rattle.definition.specs.declared.records.Entry.the-variants as entry
 use Rattle.definition.specs.declared.records.Expression.{Expression}
 use Rattle.definition.specs.declared.records.Expression.the-variants as expression
 use Rattle.definition.specs.declared.records.Constant.{Constant}
-use Rattle.definition.specs.declared.records.Constant.the-variants as constant
-use Rattle.definition.specs.Base.{joined}
 use Rattle.definition.specs.Layout.{word, shapes, types, initializers, entries, expressions, constants}
 
 -- ---- Shapes: five words, kind first
@@ -147,18 +143,7 @@ expressionAt f x = expressionOf (word f expressions x 0) (word f expressions x 1
 
 -- ---- Constants: kind, sign, low, high, width
 unfoldable pub constantOf : ℕ → ℕ → ℕ → ℕ → ℕ → Constant
-constantOf kind sign low high width =
-    getD (
-    constant.Boolean low ∷
-    constant.Integer (eqb sign 1) (joined low high) ∷
-    constant.BitString (joined low high) ∷
-    constant.Real (joined low high) ∷
-    constant.Duration (eqb sign 1) (joined low high) width ∷
-    constant.TimeOfDay (joined low high) width ∷
-    constant.Date (joined low high) width ∷
-    constant.DateAndTime (joined low high) width ∷
-    constant.String low high width ∷
-    []) kind constant.Unknown
+constantOf kind sign low high width = record { kind = kind; sign = sign; low = low; high = high; width = width }
 
 unfoldable pub constantAt : List ℕ → ℕ → Constant
 constantAt f c = constantOf (word f constants c 0) (word f constants c 1) (word f constants c 2) (word f constants c 3) (word f constants c 4)

@@ -1,10 +1,8 @@
 -- Value trees (document 01, "Made by resolver.rs, read by value.rs"): a node is six words, a tree is a node with its parts.
-use mathlib.Core.Bool.{Bool}
 use mathlib.Core.List.{List, [], _∷_, _++_}
-use Prim.Native.Nat.{ℕ, zero, suc, _+_, _/_, _%_, _^_}
+use Prim.Native.Nat.{ℕ, zero, suc, _+_}
 use lib.Dec.{eqb}
 use Rattle.definition.specs.declared.records.Constant.{Constant}
-use Rattle.definition.specs.declared.records.Constant.the-variants as constant
 use Rattle.definition.specs.Base.{pick}
 
 -- a name or 0, a kind, then a constant's four words
@@ -57,21 +55,9 @@ unfoldable mutual
 unfoldable pub leaf : ℕ → ℕ → ℕ → ℕ → ℕ → Tree
 leaf kind sign low high width = node (record { name = 0; kind = kind; sign = sign; low = low; high = high; width = width }) tnil
 
-unfoldable pub signWord : Bool → ℕ
-signWord negative = pick negative 1 0
-
 -- kinds 0 to 8: a constant's words
 unfoldable pub constantTree : Constant → Tree
-constantTree (constant.Boolean value) = leaf 0 0 value 0 0
-constantTree (constant.Integer negative size) = leaf 1 (signWord negative) (size % 2 ^ 32) (size / 2 ^ 32) 0
-constantTree (constant.BitString size) = leaf 2 0 (size % 2 ^ 32) (size / 2 ^ 32) 0
-constantTree (constant.Real bits) = leaf 3 0 (bits % 2 ^ 32) (bits / 2 ^ 32) 0
-constantTree (constant.Duration negative size width) = leaf 4 (signWord negative) (size % 2 ^ 32) (size / 2 ^ 32) width
-constantTree (constant.TimeOfDay size width) = leaf 5 0 (size % 2 ^ 32) (size / 2 ^ 32) width
-constantTree (constant.Date size width) = leaf 6 0 (size % 2 ^ 32) (size / 2 ^ 32) width
-constantTree (constant.DateAndTime size width) = leaf 7 0 (size % 2 ^ 32) (size / 2 ^ 32) width
-constantTree (constant.String first many width) = leaf 8 0 first many width
-constantTree constant.Unknown = leaf 0 0 0 0 0
+constantTree c = leaf (c .kind) (c .sign) (c .low) (c .high) (c .width)
 
 unfoldable pub enumeratedTree : ℕ → ℕ → Tree
 enumeratedTree value qualifier = leaf 9 0 value qualifier 0

@@ -124,42 +124,11 @@ pub enum Expression {
     Unknown,
 }
 
-// The Rust's `ConstantKind`. A size is the two words of a 64-bit quantity, low word first.
-pub enum Constant {
-    Boolean {
-        value: u32,
-    },
-    Integer {
-        negative: bool,
-        size: u64,
-    },
-    BitString {
-        size: u64,
-    },
-    Real {
-        bits: u64,
-    },
-    Duration {
-        negative: bool,
-        size: u64,
-        width: u32,
-    },
-    TimeOfDay {
-        size: u64,
-        width: u32,
-    },
-    Date {
-        size: u64,
-        width: u32,
-    },
-    DateAndTime {
-        size: u64,
-        width: u32,
-    },
-    String {
-        first: u32,
-        count: u32,
-        width: u32,
-    },
-    Unknown,
+// The Rust's `ConstantKind`: the same five words in every kind, which a node holds too.
+pub struct Constant {
+    pub kind: u32,
+    pub sign: u32,
+    pub low: u32,
+    pub high: u32,
+    pub width: u32,
 }
