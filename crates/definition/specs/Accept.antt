@@ -169,14 +169,14 @@ enumeratedEntry f e = numberIn f entries e && eqb (word f entries e 1) 0 && eqb 
 unfoldable pub shapePoints : List ℕ → ℕ → ℕ → ℕ → ℕ → ℕ → ℕ → Bool
 shapePoints f n kind a b c d =
     getD (
-      true ∷ true ∷ true ∷ true ∷ true ∷ true ∷ true ∷ true ∷ true ∷ true ∷
-      (runIn f members a b && leb d n) ∷
-      runOf f shapeFields (λ k. ltb (word f shapeFields k 1) n) a b ∷
-      (ltb a n && runIn f dimensions b c && not (eqb c 0)) ∷
-      (ltb a n && constantIn f 1 b && constantIn f 1 c) ∷
-      true ∷ true ∷
-      ltb a n ∷
-      []) kind false
+    true ∷ true ∷ true ∷ true ∷ true ∷ true ∷ true ∷ true ∷ true ∷ true ∷
+    (runIn f members a b && leb d n) ∷
+    runOf f shapeFields (λ k. ltb (word f shapeFields k 1) n) a b ∷
+    (ltb a n && runIn f dimensions b c && not (eqb c 0)) ∷
+    (ltb a n && constantIn f 1 b && constantIn f 1 c) ∷
+    true ∷ true ∷
+    ltb a n ∷
+    []) kind false
 
 -- a type's name: a link, or inline where that is allowed
 unfoldable pub nameIn : List ℕ → Bool → ℕ → Bool
@@ -185,15 +185,15 @@ nameIn f inlined w = linkIn f types w || (inlined && eqb w inline)
 unfoldable pub declarationPoints : List ℕ → ℕ → ℕ → ℕ → ℕ → ℕ → Bool
 declarationPoints f kind name start first many =
     getD (
-      true ∷
-      onLink start false (numberIn f initializers) ∷
-      (nameIn f true name && linkTo (constantIn f 1) start) ∷
-      linkTo (constantIn f 8) start ∷
-      (nameIn f true name && runOf f entries (arrayEntry f) first many) ∷
-      runIn f elements first many ∷
-      nameIn f false name ∷ nameIn f false name ∷ nameIn f false name ∷
-      runIn f variables first many ∷
-      []) kind false
+    true ∷
+    onLink start false (numberIn f initializers) ∷
+    (nameIn f true name && linkTo (constantIn f 1) start) ∷
+    linkTo (constantIn f 8) start ∷
+    (nameIn f true name && runOf f entries (arrayEntry f) first many) ∷
+    runIn f elements first many ∷
+    nameIn f false name ∷ nameIn f false name ∷ nameIn f false name ∷
+    runIn f variables first many ∷
+    []) kind false
 
 -- no block record is first 4294967295, count 0
 unfoldable pub blockPoints : List ℕ → ℕ → ℕ → Bool
@@ -218,17 +218,17 @@ valuePoints f kind value first many =
     let enumerated : Bool = linkTo (enumeratedEntry f) value in
     let listed : Bool = runOf f entries (memberEntry f) first many in
     getD (
-      true ∷ true ∷
-      constant 1 ∷
-      linkIn f constants value ∷
-      constant 8 ∷
-      enumerated ∷ enumerated ∷
-      listed ∷ listed ∷
-      runOf f entries (arrayEntry f) first many ∷
-      linkTo (referencePoints f) value ∷
-      linkIn f constants value ∷
-      true ∷ true ∷ true ∷
-      []) kind false
+    true ∷ true ∷
+    constant 1 ∷
+    linkIn f constants value ∷
+    constant 8 ∷
+    enumerated ∷ enumerated ∷
+    listed ∷ listed ∷
+    runOf f entries (arrayEntry f) first many ∷
+    linkTo (referencePoints f) value ∷
+    linkIn f constants value ∷
+    true ∷ true ∷ true ∷
+    []) kind false
 
 -- inline only in kinds 2 and 9
 unfoldable pub initializerPoints : List ℕ → ℕ → Bool
@@ -245,14 +245,14 @@ lowerRun f e rule first many = runOf f entries rule first many && (leb (first + 
 unfoldable pub entryPoints : List ℕ → ℕ → ℕ → ℕ → ℕ → Bool
 entryPoints f e kind a b =
     getD (
-      numberIn f constants a ∷
-      true ∷
-      lowerRun f e (arrayEntry f) a b ∷
-      lowerRun f e (memberEntry f) a b ∷
-      numberIn f expressions a ∷
-      true ∷
-      linkTo (λ i. ltb i e && arrayEntry f i) b ∷
-      []) kind false
+    numberIn f constants a ∷
+    true ∷
+    lowerRun f e (arrayEntry f) a b ∷
+    lowerRun f e (memberEntry f) a b ∷
+    numberIn f expressions a ∷
+    true ∷
+    linkTo (λ i. ltb i e && arrayEntry f i) b ∷
+    []) kind false
 
 -- parentheses and conversions point lower
 unfoldable pub expressionPoints : List ℕ → ℕ → ℕ → ℕ → Bool

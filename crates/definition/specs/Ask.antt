@@ -1,8 +1,8 @@
 -- What a type, an initializer or a member list means: a computation that may ask for the default of another type. It knows nothing of order, memory or circles.
-use Prim.Native.Nat.{ℕ, suc}
+use Prim.Native.Nat.{ℕ, suc, _+_}
 use lib.Dec.{leb}
 use Rattle.definition.specs.Base.{choose}
-use Rattle.definition.specs.Tree.{Tree, Trees, nodes, nodesIn, mostNodes}
+use Rattle.definition.specs.Tree.{Tree, Trees, many, nodes, nodesIn, join, mostNodes}
 
 -- a value, none, or too large (the Rust's `Option`, with refusal 8)
 pub data Result (A : Type 0) : Type 0 where
@@ -45,6 +45,10 @@ typeDefault d = ask d done
 unfoldable pub formed : Tree → Ask Outcome
 formed t = choose (leb (nodes t) mostNodes) (λ u. done (ok t)) (λ u. done large)
 
--- values or fields gathered so far count under a head
-unfoldable pub gathered : Trees → Ask (Result Trees)
-gathered ts = choose (leb (suc (nodesIn ts)) mostNodes) (λ u. done (ok ts)) (λ u. done large)
+-- values or fields count under a head together with the nodes gathered so far
+unfoldable pub gathered : ℕ → Trees → Ask (Result Trees)
+gathered size ts = choose (leb (suc (size + nodesIn ts)) mostNodes) (λ u. done (ok ts)) (λ u. done large)
+
+-- some, then more, which know how many there are so far and how many nodes those have
+unfoldable pub andMore : ℕ → ℕ → Ask (Result Trees) → (ℕ → ℕ → Ask (Result Trees)) → Ask (Result Trees)
+andMore made size some more = some >>= λ ts. more (made + many ts) (size + nodesIn ts) >>= λ us. give (join ts us)

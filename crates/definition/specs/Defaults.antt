@@ -13,8 +13,8 @@ use Rattle.definition.specs.Layout.{word, count, shapes, shapeFields, ty
 use Rattle.definition.specs.Records.{aliasBase, declarationAt, namedType, initializerAt, constantAt}
 use Rattle.definition.specs.Accept.{elementsOf}
 use Rattle.definition.specs.Syntax.{Init, Inits, inil, icons, initsAt}
-use Rattle.definition.specs.Tree.{Tree, Trees, tnil, tcons, head, parts, many, nodesIn, join, one, times, rest, named, arrayTree, structureTree, nullTree, referenceTree, mostNodes}
-use Rattle.definition.specs.Ask.{Result, ok, none, large, Outcome, Ask, done, ask, bind, _>>=_, give, nothing, typeDefault, formed, gathered}
+use Rattle.definition.specs.Tree.{Tree, Trees, tnil, tcons, head, parts, many, nodesIn, one, times, rest, named, arrayTree, structureTree, nullTree, referenceTree, mostNodes}
+use Rattle.definition.specs.Ask.{Result, ok, none, large, Outcome, Ask, done, ask, bind, _>>=_, give, nothing, typeDefault, formed, gathered, andMore}
 use Rattle.definition.specs.Iec.{implicitScalar, filled, assigned}
 use Rattle.definition.specs.Scalar.{constantValue, enumeratedValue, expressionValue, emptyString}
 use Rattle.definition.specs.Shapes.{onShape, onArray}
@@ -33,9 +33,9 @@ ifStated (suc n) other go = go n
 abbrev pub onFields : Tree → (Trees → Ask Outcome) → Ask Outcome
 onFields t go = choose (eqb (head t .kind) 14) (λ u. go (parts t)) (λ u. nothing)
 
-abbrev pub onFirst : {A : Type 0} → Trees → Ask (Result A) → (Tree → Ask (Result A)) → Ask (Result A)
-onFirst tnil other go = other
-onFirst (tcons t ts) other go = go t
+abbrev pub onFirst : {A : Type 0} → Trees → (Tree → Trees → Ask (Result A)) → Ask (Result A)
+onFirst tnil go = nothing
+onFirst (tcons t ts) go = go t ts
 
 -- the first field of a name, as a value of its own, or none
 unfoldable pub onNamed : ℕ → Trees → (Tree → Ask Outcome) → Ask Outcome
@@ -56,30 +56,42 @@ unfoldable pub elementDefaults : List ℕ → Starts → Place → Ask (Result T
 elementDefaults f default place =
     onArray (place .shape) nothing (λ s first count. default (elementPlace f place s) >>= λ t. repeatedDefaults (elementsOf f first count) (flat t))
 
--- an array whose leading places are filled, and the rest at the element default (`array`)
-unfoldable pub arrayBy : List ℕ → Starts → Place → (Place → Trees → Trees → Ask (Result Trees)) → Ask Outcome
-arrayBy f default place fill =
-    elementDefaults f default place >>= λ defaults. fill (leafPlace f place) defaults tnil >>= λ values. formed (arrayTree (filled defaults values))
+-- entries give values, knowing the innermost place, the defaults, how many values there are so far and how many nodes those have
+abbrev pub Fills : Type 0
+Fills = Place → Trees → ℕ → ℕ → Ask (Result Trees)
 
--- values after a push or a copy: none once there are more than places
-unfoldable pub added : ℕ → Trees → Trees → Ask (Result Trees)
-added places values more = gathered (join values more) >>= λ all. pick (leb (many all) places) (give all) nothing
+-- an array whose leading places are filled, and the rest at the element default (`array`)
+unfoldable pub arrayBy : List ℕ → Starts → Place → Fills → Ask Outcome
+arrayBy f default place fill =
+    elementDefaults f default place >>= λ defaults. fill (leafPlace f place) defaults 0 0 >>= λ values. formed (arrayTree (filled defaults values))
+
+-- values that are pushed or copied: none once there are more than places
+unfoldable pub added : ℕ → ℕ → ℕ → Trees → Ask (Result Trees)
+added places made size values = gathered size values >>= λ ts. pick (leb (made + many ts) places) (give ts) nothing
 
 -- a repetition, copied so many times
-unfoldable pub copied : ℕ → Trees → ℕ → Trees → Ask (Result Trees)
-copied zero repetition places values = give values
-copied (suc k) repetition places values = added places values repetition >>= copied k repetition places
+unfoldable pub copied : ℕ → Trees → ℕ → ℕ → ℕ → Ask (Result Trees)
+copied zero repetition places made size = give tnil
+copied (suc k) repetition places made size = andMore made size (added places made size repetition) (copied k repetition places)
 
--- n() takes each place's own default
-unfoldable pub defaulted : ℕ → Trees → Trees → Ask (Result Trees)
-defaulted zero defaults values = give values
-defaulted (suc k) defaults values = onFirst (rest (many values) defaults) nothing (λ t. added (many defaults) values (one t) >>= defaulted k defaults)
+-- n() takes each place's own default, of those that are left
+unfoldable pub defaulted : ℕ → Trees → ℕ → ℕ → ℕ → Ask (Result Trees)
+defaulted zero left places made size = give tnil
+defaulted (suc k) left places made size = onFirst left (λ t ts. andMore made size (added places made size (one t)) (defaulted k ts places))
 
 -- ---- the implicit default (`implicit`), where `default` says how the places inside start
-unfoldable pub fieldsBy : List ℕ → Starts → Place → List ℕ → Trees → Ask Outcome
-fieldsBy f default place [] fields = give (structureTree fields)
-fieldsBy f default place (name ∷ names) fields =
-    done (fieldPlace f place name) >>= default >>= λ t. gathered (join fields (one (named name t))) >>= fieldsBy f default place names
+-- a field's value under its name
+unfoldable pub field : ℕ → ℕ → Tree → Ask (Result Trees)
+field size name t = gathered size (one (named name t))
+
+unfoldable pub fieldsBy : List ℕ → Starts → Place → List ℕ → ℕ → ℕ → Ask (Result Trees)
+fieldsBy f default place [] made size = give tnil
+fieldsBy f default place (name ∷ names) made size =
+    andMore made size (done (fieldPlace f place name) >>= default >>= field size name) (fieldsBy f default place names)
+
+-- all fields of a structure or a block
+unfoldable pub structured : (ℕ → ℕ → Ask (Result Trees)) → Ask Outcome
+structured fields = fields 0 0 >>= λ ts. give (structureTree ts)
 
 unfoldable pub implicitBy : List ℕ → Starts → Starts
 implicitBy f default place =
@@ -87,9 +99,9 @@ implicitBy f default place =
     onShape (place .shape)
     (λ length width. done (emptyString f length width))
     (λ first many. scalar tt)
-    (λ first many. fieldsBy f default place (namesIn f first many) tnil)
-    (λ s first many. arrayBy f default place (λ leaf defaults values. give values))
-    (λ u. done (blockFieldNames f place) >>= λ names. fieldsBy f default place names tnil)
+    (λ first many. structured (fieldsBy f default place (namesIn f first many)))
+    (λ s first many. arrayBy f default place (λ leaf defaults made size. give tnil))
+    (λ u. done (blockFieldNames f place) >>= λ names. structured (fieldsBy f default place names))
     (λ u. give nullTree)
     scalar
 
@@ -109,36 +121,40 @@ unfoldable pub defaultOf : List ℕ → Starts
 defaultOf f place = defaultBy (implicit f) place
 
 -- ---- entries (`expand`, `members`, `member`)
--- Array entries append the values that they give to those so far. A member list changes the fields of a structure, the later value of a name last.
+-- Array entries give the values that they append. A member list changes the fields of a structure, the later value of a name last.
 unfoldable mutual
-  pub expand : List ℕ → Init → Place → Trees → Trees → Ask (Result Trees)
-  expand f (Init.constant c) leaf defaults values = done (constantValue f (leaf .shape) c) >>= λ t. added (many defaults) values (one t)
-  expand f (Init.enumerated v q) leaf defaults values = done (enumeratedValue f (leaf .shape) v q) >>= λ t. added (many defaults) values (one t)
-  expand f (Init.array is) leaf defaults values = nothing
-  expand f (Init.structure is) leaf defaults values =
-      onFirst (rest (many values) defaults) nothing
-      (λ base. onFields base (λ fields. members f is leaf fields) >>= λ t. added (many defaults) values (one t))
-  expand f (Init.expr x) leaf defaults values = done (expressionValue f (leaf .shape) x) >>= λ t. added (many defaults) values (one t)
-  expand f Init.lateBound leaf defaults values = nothing
-  expand f (Init.repeated k i) leaf defaults values =
+  pub expand : List ℕ → Init → Fills
+  expand f (Init.constant c) leaf defaults made size = done (constantValue f (leaf .shape) c) >>= λ t. added (many defaults) made size (one t)
+  expand f (Init.enumerated v q) leaf defaults made size = done (enumeratedValue f (leaf .shape) v q) >>= λ t. added (many defaults) made size (one t)
+  expand f (Init.array is) leaf defaults made size = nothing
+  expand f (Init.structure is) leaf defaults made size =
+      onFirst (rest made defaults) (λ base ts. onFields base (λ fields. members f is leaf fields) >>= λ t. added (many defaults) made size (one t))
+  expand f (Init.expr x) leaf defaults made size = done (expressionValue f (leaf .shape) x) >>= λ t. added (many defaults) made size (one t)
+  expand f Init.lateBound leaf defaults made size = nothing
+  expand f (Init.repeated k i) leaf defaults made size =
       choose (leb k (many defaults))
-      (λ u. expand f i leaf (rest (many values) defaults) tnil >>= λ repetition. copied k repetition (many defaults) values)
+      (λ u. expand f i leaf (rest made defaults) 0 0 >>= λ repetition. copied k repetition (many defaults) made size)
       (λ u. nothing)
-  expand f (Init.defaults k) leaf defaults values = choose (leb k (many defaults)) (λ u. defaulted k defaults values) (λ u. nothing)
+  expand f (Init.defaults k) leaf defaults made size =
+      choose (leb k (many defaults)) (λ u. defaulted k (rest made defaults) (many defaults) made size) (λ u. nothing)
 
-  pub expandAll : List ℕ → Inits → Place → Trees → Trees → Ask (Result Trees)
-  expandAll f inil leaf defaults values = give values
-  expandAll f (icons name i is) leaf defaults values = expand f i leaf defaults values >>= λ more. expandAll f is leaf defaults more
+  pub expandAll : List ℕ → Inits → Fills
+  expandAll f inil leaf defaults made size = give tnil
+  expandAll f (icons name i is) leaf defaults made size = andMore made size (expand f i leaf defaults made size) (λ m s. expandAll f is leaf defaults m s)
 
   pub members : List ℕ → Inits → Place → Trees → Ask Outcome
   members f inil place fields = give (structureTree fields)
   members f (icons name i is) place fields =
-      onNamed name fields (λ current. done (fieldPlace f place name) >>= λ field. member f i field current >>= λ t. gathered (assigned name t fields) >>= λ more. members f is place more)
+      onNamed name fields (λ current.
+      done (fieldPlace f place name)
+      >>= λ inner. member f i inner current
+      >>= λ t. gathered 0 (assigned name t fields)
+      >>= λ changed. members f is place changed)
 
   pub member : List ℕ → Init → Place → Tree → Ask Outcome
   member f (Init.constant c) place current = done (constantValue f (place .shape) c)
   member f (Init.enumerated v q) place current = done (enumeratedValue f (place .shape) v q)
-  member f (Init.array is) place current = arrayBy f (defaultOf f) place (λ leaf defaults values. expandAll f is leaf defaults values)
+  member f (Init.array is) place current = arrayBy f (defaultOf f) place (λ leaf defaults made size. expandAll f is leaf defaults made size)
   member f (Init.structure is) place current = onFields current (λ fields. members f is place fields)
   member f (Init.expr x) place current = done (expressionValue f (place .shape) x)
   member f Init.lateBound place current = nothing
@@ -230,25 +246,26 @@ unfoldable pub subrangeDefault : List ℕ → Place → ℕ → ℕ → Ask Outc
 subrangeDefault f place name start = choose (eqb name 0) (λ u. nothing) (λ u. bind (specDefault f place name) (overBase f place start))
 
 -- each element of a structure's declaration
-unfoldable pub elementsFrom : List ℕ → Place → ℕ → ℕ → Trees → Ask Outcome
-elementsFrom f place e zero fields = give (structureTree fields)
-elementsFrom f place e (suc k) fields =
-    done (fieldPlace f place (word f elements e 0))
-    >>= initializer f (word f elements e 1)
-    >>= λ t. gathered (join fields (one (named (word f elements e 0) t)))
-    >>= elementsFrom f place (suc e) k
+unfoldable pub elementsFrom : List ℕ → Place → ℕ → ℕ → ℕ → ℕ → Ask (Result Trees)
+elementsFrom f place e zero made size = give tnil
+elementsFrom f place e (suc k) made size =
+    andMore made size
+    (done (fieldPlace f place (word f elements e 0)) >>= initializer f (word f elements e 1) >>= field size (word f elements e 0))
+    (elementsFrom f place (suc e) k)
 
 -- ---- an instance of a function block (`block_default`): its inputs, outputs and internal variables, each of which has a name
 unfoldable pub isInstance : ℕ → Bool
 isInstance kind = eqb kind 0 || eqb kind 1 || eqb kind 4
 
-unfoldable pub instanceFrom : List ℕ → ℕ → ℕ → Trees → Ask Outcome
-instanceFrom f v zero fields = give (structureTree fields)
-instanceFrom f v (suc k) fields =
+unfoldable pub variableField : List ℕ → ℕ → ℕ → Ask (Result Trees)
+variableField f v size = choose (eqb (word f variables v 0) 0) (λ u. nothing) (λ u. declaration f v >>= field size (word f variables v 0))
+
+unfoldable pub instanceFrom : List ℕ → ℕ → ℕ → ℕ → ℕ → Ask (Result Trees)
+instanceFrom f v zero made size = give tnil
+instanceFrom f v (suc k) made size =
     choose (isInstance (word f variables v 1))
-    (λ u. done (pick (eqb (word f variables v 0) 0) none (ok (word f variables v 0)))
-    >>= λ name. declaration f v >>= λ t. gathered (join fields (one (named name t))) >>= instanceFrom f (suc v) k)
-    (λ u. instanceFrom f (suc v) k fields)
+    (λ u. andMore made size (variableField f v size) (instanceFrom f (suc v) k))
+    (λ u. instanceFrom f (suc v) k made size)
 
 unfoldable pub bodyBy : List ℕ → ℕ → Place → Declaration → Ask Outcome
 bodyBy f t place decl.Nothing = ifStated (aliasBase f t) (λ u. implicit f place) typeDefault
@@ -256,11 +273,11 @@ bodyBy f t place (decl.Simple start) = onLink start nothing (λ i. aliasDefaultB
 bodyBy f t place (decl.Subrange name start) = subrangeDefault f place name start
 bodyBy f t place (decl.String start) = ifStated start (λ u. implicit f place) (constantAs f place)
 bodyBy f t place (decl.Array name first count) = choose (eqb count 0) (λ u. specDefault f place name) (λ u. arrayOf f place first count)
-bodyBy f t place (decl.Structure first count) = elementsFrom f place first count tnil
+bodyBy f t place (decl.Structure first count) = structured (elementsFrom f place first count)
 bodyBy f t place (decl.Reference name) = give nullTree
 bodyBy f t place (decl.Enumeration name) = implicit f place
 bodyBy f t place (decl.LateBound name) = implicit f place
-bodyBy f t place (decl.FunctionBlock first count) = instanceFrom f first count tnil
+bodyBy f t place (decl.FunctionBlock first count) = structured (instanceFrom f first count)
 bodyBy f t place decl.Unknown = nothing
 
 -- ---- the default of the type t as its record says it (`type_default`)

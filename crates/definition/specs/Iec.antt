@@ -7,6 +7,7 @@ use lib.IntN.{ℤ, pos, negℤ}
 use lib.Signed.{leZ}
 use Rattle.definition.specs.declared.records.Shape.{Shape}
 use Rattle.definition.specs.declared.records.Shape.the-variants as shape
+use Rattle.definition.specs.declared.records.Constant.{Constant}
 use Rattle.definition.specs.Base.{pick}
 use Rattle.definition.specs.Layout.{word, members}
 use Rattle.definition.specs.Records.{constantOf, constantAt}
@@ -46,7 +47,10 @@ defaultMember f first count default = pick (ltb default count) (ok (enumeratedTr
 unfoldable pub zeroOf : ℕ → ℕ → Outcome
 zeroOf kind width = ok (constantTree (constantOf kind 0 0 0 width))
 
--- 6.4.4.4: a subrange starts at its lower limit
+-- 6.4.4.4: a subrange starts at its lower limit, as an integer
+unfoldable pub asIntegerTree : Constant → Tree
+asIntegerTree c = constantTree (constantOf 1 (c .sign) (c .low) (c .high) 0)
+
 unfoldable pub implicitScalar : List ℕ → Shape → Outcome
 implicitScalar f shape.Bool = zeroOf 0 0
 implicitScalar f (shape.Int bits) = zeroOf 1 0
@@ -61,7 +65,7 @@ implicitScalar f (shape.String length width) = none
 implicitScalar f (shape.Enumeration first count default underlying) = defaultMember f first count default
 implicitScalar f (shape.Structure first count) = none
 implicitScalar f (shape.Array element first count) = none
-implicitScalar f (shape.Subrange base low high) = ok (constantTree (constantAt f low))
+implicitScalar f (shape.Subrange base low high) = ok (asIntegerTree (constantAt f low))
 implicitScalar f (shape.FunctionBlock name) = none
 implicitScalar f (shape.Interface name) = none
 implicitScalar f (shape.Reference target) = none
