@@ -17,5 +17,7 @@ pub mod Complete
 pub mod Lines
 pub mod Uses
 pub mod Sheet
+pub mod Depth
+pub mod Answers
 pub mod Computing
 pub mod Examples

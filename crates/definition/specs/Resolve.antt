@@ -62,11 +62,12 @@ unfoldable pub declaredBelow : List ℕ → ℕ → List ℕ
 declaredBelow f zero = []
 declaredBelow f (suc t) = declaredBelow f t ++ pick (eqb (declarationKind f t) 0) [] (t ∷ [])
 
--- what a computation gives after that
+-- what is remembered then, and what a computation gives after that
+unfoldable pub remembered : List ℕ → Memo
+remembered f = resolveAll (body f) (count f types) (declaredBelow f (count f types))
+
 unfoldable pub answer : {A : Type 0} → List ℕ → Ask A → A
-answer f m =
-    let n = count f types in
-    run (resolve (body f) n) (resolveAll (body f) n (declaredBelow f n)) m .value
+answer f m = run (resolve (body f) (count f types)) (remembered f) m .value
 
 unfoldable pub typeOutcome : List ℕ → ℕ → Outcome
 typeOutcome f t = answer f (typeDefault t)

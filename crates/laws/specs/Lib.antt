@@ -1,1 +1,11 @@
 pub mod Asks
+pub mod Binds
+pub mod Every
+pub mod Memo
+pub mod Resolving
+pub mod Peeking
+pub mod Ranked
+pub mod Held
+pub mod Outcomes
+pub mod Ranks
+pub mod Circles

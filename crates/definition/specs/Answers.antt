@@ -1,0 +1,137 @@
+-- What each public function answers, and what it leaves in the words that it is lent: out holds the answer at its front and keeps the rest; a refusal, none and left
+-- keep all of out; work words always end as 0 (document 01, after the refusals).
+use mathlib.Core.Bool.{Bool}
+use mathlib.Core.List.{List, [], _++_}
+use Prim.Native.Nat.{ℕ, _+_, _*_, min}
+use lib.Dec.{eqb, leb, ltb}
+use lib.ListN.{length, drop, replicate}
+use Rattle.definition.specs.declared.answers.Acceptance.{Acceptance}
+use Rattle.definition.specs.declared.answers.Acceptance.the-variants as acceptance
+use Rattle.definition.specs.declared.answers.WorkWords.{WorkWords}
+use Rattle.definition.specs.declared.answers.WorkWords.the-variants as workWords
+use Rattle.definition.specs.declared.answers.TreeAnswer.{TreeAnswer}
+use Rattle.definition.specs.declared.answers.TreeAnswer.the-variants as tree
+use Rattle.definition.specs.declared.answers.CompletedAnswer.{CompletedAnswer}
+use Rattle.definition.specs.declared.answers.CompletedAnswer.the-variants as completing
+use Rattle.definition.specs.declared.answers.SheetAnswer.{SheetAnswer}
+use Rattle.definition.specs.declared.answers.SheetAnswer.the-variants as writing
+use Rattle.definition.specs.declared.answers.CheckAnswer.{CheckAnswer}
+use Rattle.definition.specs.declared.answers.CheckAnswer.the-variants as checking
+use Rattle.definition.specs.Base.{pick, choose}
+use Rattle.definition.specs.Layout.{count, types, variables, entries}
+use Rattle.definition.specs.Accept.{need, verdict}
+use Rattle.definition.specs.Tree.{nodes, flatten}
+use Rattle.definition.specs.Ask.{Result, ok, none, large, Outcome}
+use Rattle.definition.specs.Resolve.{typeOutcome, variableOutcome}
+use Rattle.definition.specs.Complete.{Completed, completed, left, completion}
+use Rattle.definition.specs.Uses.{Ranking, ranksOf, rankAt}
+use Rattle.definition.specs.Sheet.{onRanking, sheetWith, checkAnswer}
+use Rattle.definition.specs.Depth.{levels}
+
+-- a refusal's number, or 0: document 01's number for each case of an answer
+abbrev pub answered : {A : Type 0} → ℕ → (ℕ → A) → (Unit {0} → A) → A
+answered refusal refused value = choose (eqb refusal 0) (λ u. value tt) (λ u. refused refusal)
+
+unfoldable pub acceptAnswer : List ℕ → Acceptance
+acceptAnswer f = answered (verdict f) acceptance.Refused (λ u. acceptance.Accepted)
+
+-- ---- work words
+-- room for two trees of 2,048 nodes at each level, a word for each type and entry, and a line of 12,291 words for each type
+unfoldable pub resolverWords : List ℕ → ℕ
+resolverWords f = levels f * 24576 + count f types + count f entries + count f types * 12291
+
+-- the writer's lines never need more words than the sheet itself
+unfoldable pub writerWords : List ℕ → ℕ → ℕ
+writerWords f out = levels f * 24576 + count f types + count f entries + min out (count f types * 12291)
+
+-- the check reads its lines from the sheet
+unfoldable pub checkWords : List ℕ → ℕ
+checkWords f = levels f * 24576 + count f types + count f entries
+
+unfoldable pub wordsAnswer : List ℕ → ℕ → WorkWords
+wordsAnswer f n = answered (verdict f) workWords.Refused (λ u. workWords.Words n)
+
+-- work words end as 0, however many were lent
+unfoldable pub cleared : List ℕ → List ℕ
+cleared work = replicate (length work) 0
+
+-- ---- trees: refusals 1 to 7, 10 for too few work words, 8, and 10 for too short an out
+-- the refusals before the answer itself is known
+unfoldable pub refusedFirst : List ℕ → Bool → ℕ → ℕ → ℕ
+refusedFirst f there wanted work =
+    choose (eqb (verdict f) 0) (λ u. need there 7 λ v. need (leb wanted work) 10 λ w. 0) (λ u. verdict f)
+
+-- an answer's words at the front of out
+unfoldable pub over : List ℕ → List ℕ → List ℕ
+over words out = pick (leb (length words) (length out)) (words ++ drop (length words) out) out
+
+unfoldable pub treeAnswer : Outcome → ℕ → TreeAnswer
+treeAnswer (ok t) out = pick (leb (6 * nodes t) out) (tree.Tree (nodes t)) (tree.Refused 10)
+treeAnswer none out = tree.None
+treeAnswer large out = tree.Refused 8
+
+unfoldable pub treeWords : Outcome → List ℕ → List ℕ
+treeWords (ok t) out = over (flatten t) out
+treeWords none out = out
+treeWords large out = out
+
+unfoldable pub typeRefused : List ℕ → ℕ → ℕ → ℕ
+typeRefused f t work = refusedFirst f (ltb t (count f types)) (resolverWords f) work
+
+unfoldable pub typeTreeAnswer : List ℕ → ℕ → ℕ → ℕ → TreeAnswer
+typeTreeAnswer f t out work = answered (typeRefused f t work) tree.Refused (λ u. treeAnswer (typeOutcome f t) out)
+
+unfoldable pub typeTreeWords : List ℕ → ℕ → List ℕ → ℕ → List ℕ
+typeTreeWords f t out work = answered (typeRefused f t work) (λ n. out) (λ u. treeWords (typeOutcome f t) out)
+
+unfoldable pub variableRefused : List ℕ → ℕ → ℕ → ℕ
+variableRefused f v work = refusedFirst f (ltb v (count f variables)) (resolverWords f) work
+
+unfoldable pub variableTreeAnswer : List ℕ → ℕ → ℕ → ℕ → TreeAnswer
+variableTreeAnswer f v out work = answered (variableRefused f v work) tree.Refused (λ u. treeAnswer (variableOutcome f v) out)
+
+unfoldable pub variableTreeWords : List ℕ → ℕ → List ℕ → ℕ → List ℕ
+variableTreeWords f v out work = answered (variableRefused f v work) (λ n. out) (λ u. treeWords (variableOutcome f v) out)
+
+-- ---- completed initializers: a too large variable is refused when it is asked alone
+unfoldable pub completedAnswerOf : Completed → ℕ → CompletedAnswer
+completedAnswerOf (completed i t) out = pick (leb (6 * nodes t) out) (completing.Completed i (nodes t)) (completing.Refused 10)
+completedAnswerOf left out = completing.Left
+
+unfoldable pub completedOutcome : List ℕ → ℕ → Outcome → ℕ → CompletedAnswer
+completedOutcome f v (ok t) out = completedAnswerOf (completion f v (ok t)) out
+completedOutcome f v none out = completing.Left
+completedOutcome f v large out = completing.Refused 8
+
+unfoldable pub completedTree : Completed → List ℕ → List ℕ
+completedTree (completed i t) out = over (flatten t) out
+completedTree left out = out
+
+unfoldable pub completedAnswer : List ℕ → ℕ → ℕ → ℕ → CompletedAnswer
+completedAnswer f v out work = answered (variableRefused f v work) completing.Refused (λ u. completedOutcome f v (variableOutcome f v) out)
+
+unfoldable pub completedOut : List ℕ → ℕ → List ℕ → ℕ → List ℕ
+completedOut f v out work = answered (variableRefused f v work) (λ n. out) (λ u. completedTree (completion f v (variableOutcome f v)) out)
+
+-- ---- the sheet writer: refusals 1 to 6, 10 for too few work words, 9, and 10 for too short an out
+unfoldable pub writeRefused : List ℕ → ℕ → ℕ → ℕ
+writeRefused f out work = choose (eqb (verdict f) 0) (λ u. need (leb (writerWords f out) work) 10 λ v. 0) (λ u. verdict f)
+
+unfoldable pub writtenAnswer : List ℕ → ℕ → SheetAnswer
+writtenAnswer sheet out = pick (leb (length sheet) out) (writing.Written (length sheet)) (writing.Refused 10)
+
+unfoldable pub writeAnswer : List ℕ → ℕ → ℕ → SheetAnswer
+writeAnswer f out work =
+    answered (writeRefused f out work) writing.Refused
+    (λ u. onRanking (ranksOf f) (λ w. writtenAnswer (sheetWith f (rankAt w)) out) (writing.Refused 9))
+
+unfoldable pub writeOut : List ℕ → List ℕ → ℕ → List ℕ
+writeOut f out work = answered (writeRefused f (length out) work) (λ n. out) (λ u. onRanking (ranksOf f) (λ w. over (sheetWith f (rankAt w)) out) out)
+
+-- ---- the sheet check: refusals 1 to 6, 10 for too few work words, 11, 12, 13
+unfoldable pub checkRefused : List ℕ → List ℕ → ℕ → ℕ
+checkRefused f sheet work =
+    choose (eqb (verdict f) 0) (λ u. need (leb (checkWords f) work) 10 λ v. checkAnswer f sheet) (λ u. verdict f)
+
+unfoldable pub passAnswer : List ℕ → List ℕ → ℕ → CheckAnswer
+passAnswer f sheet work = answered (checkRefused f sheet work) checking.Refused (λ u. checking.Passes)

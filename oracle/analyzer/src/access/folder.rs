@@ -1,0 +1,48 @@
+//! A child module of xform_resolve_initial_values.rs, which may use its folder
+//! and resolver.
+
+use ironplc_dsl::common::{InitialValueAssignmentKind, VarDecl};
+use ironplc_dsl::fold::Fold;
+use ironplc_dsl::type_id::TypeId;
+
+pub(crate) use super::value::Value;
+use super::{InitialValueFolder, Resolver, SemanticContext};
+
+/// Questions about one file, each answered by a fresh resolver.
+pub(crate) struct Questions<'a> {
+    context: &'a SemanticContext,
+    folder: InitialValueFolder<'a>,
+}
+
+impl<'a> Questions<'a> {
+    pub(crate) fn about(context: &'a SemanticContext) -> Self {
+        let folder = InitialValueFolder {
+            types: context.types(),
+            resolver: Resolver::new(context.types(), context.type_defaults()),
+        };
+        Questions { context, folder }
+    }
+
+    /// The default of type `id`.
+    pub(crate) fn type_default(&mut self, id: TypeId) -> Option<Value> {
+        self.fresh().resolver.default_of_type(id)
+    }
+
+    /// The value that `variable` starts with.
+    pub(crate) fn declaration(&mut self, variable: &VarDecl) -> Option<Value> {
+        self.fresh().resolver.declaration(variable)
+    }
+
+    /// The completed initializer of `variable`, which must come from the file
+    /// and be no copy; `None` if it is left as it is.
+    pub(crate) fn completed(&mut self, variable: VarDecl) -> Option<InitialValueAssignmentKind> {
+        let Ok(variable) = self.fresh().fold_var_decl(variable);
+        let initializer = variable.initializer;
+        initializer.is_completed().then_some(initializer)
+    }
+
+    fn fresh(&mut self) -> &mut InitialValueFolder<'a> {
+        self.folder.resolver.renew(self.context.type_defaults());
+        &mut self.folder
+    }
+}

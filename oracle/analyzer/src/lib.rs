@@ -1,0 +1,44 @@
+//! The unchanged resolver, asked about the types and variables of a
+//! declaration file. Compiled once for each default string length.
+
+// The unchanged files, from the build folder.
+include!(concat!(env!("OUT_DIR"), "/modules.rs"));
+
+#[cfg(feature = "counted")]
+pub mod count;
+pub mod enumeration;
+mod nodes;
+pub mod semantic_context;
+mod shapes;
+pub mod standard_function_block;
+pub mod type_environment;
+
+use answers::{Answers, Huge};
+use files::layout::{File, TYPES, VARIABLES};
+use ironplc_dsl::type_id::TypeId;
+use semantic_context::SemanticContext;
+use syntax::Syntax;
+use type_environment::TypeEnvironment;
+use xform_resolve_initial_values::access::Questions;
+
+/// What the Rust answers for `file`, which must meet none of refusals 1 to 4
+/// and have the default string length that this crate is compiled for.
+pub fn answer(file: File) -> Result<Answers, Huge> {
+    let syntax = Syntax::of(file);
+    let context = SemanticContext::of(TypeEnvironment::of(file), syntax.library());
+    let mut questions = Questions::about(&context);
+    let mut answers = Answers::default();
+    for number in 0..file.count(TYPES) as u32 {
+        let value = questions.type_default(TypeId(number));
+        answers.types.push(nodes::of_value(value)?);
+    }
+    for number in 0..file.count(VARIABLES) as u32 {
+        let variable = syntax.variable(number);
+        let value = questions.declaration(&variable);
+        answers.variables.push(nodes::of_value(value)?);
+        let initializer = questions.completed(variable);
+        answers.completed.push(nodes::of_initializer(initializer)?);
+    }
+    answers.circles = context.types().circles();
+    Ok(answers)
+}

@@ -1,0 +1,7 @@
+//! Declaration files as document 01 lays them out.
+
+pub mod frames;
+pub mod layout;
+pub mod records;
+pub mod text;
+pub mod verdict;

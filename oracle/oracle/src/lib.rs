@@ -1,0 +1,10 @@
+//! Runs the Rust on declaration files, each within a limit of time and memory.
+
+pub mod memory;
+pub mod outcome;
+#[cfg(feature = "counted")]
+pub mod unreachable;
+pub mod worker;
+
+#[global_allocator]
+static MEMORY: memory::Limited = memory::Limited;
