@@ -1,11 +1,16 @@
 //! Lays the unchanged files out in the build folder, each at its module path,
 //! and appends to three of them the line that declares our child module (see
 //! SOURCES). With the feature `counted` each arm of their matches also gets a
-//! call that counts it.
+//! call that counts it; with the feature `limited` the resolver gets the calls
+//! of limit_calls.rs.
+
+mod limit_calls;
 
 use std::env;
 use std::fs;
 use std::path::{Path, PathBuf};
+
+const RESOLVER: &str = "xform_resolve_initial_values/resolver.rs";
 
 /// The unchanged files, and the child module that is appended to some.
 const FILES: [(&str, Option<&str>); 9] = [
@@ -15,10 +20,7 @@ const FILES: [(&str, Option<&str>); 9] = [
     ("type_attributes.rs", None),
     ("value_range.rs", None),
     ("xform_resolve_initial_values.rs", Some("folder.rs")),
-    (
-        "xform_resolve_initial_values/resolver.rs",
-        Some("resolver.rs"),
-    ),
+    (RESOLVER, Some("resolver.rs")),
     ("xform_resolve_initial_values/scalar.rs", None),
     ("xform_resolve_initial_values/value.rs", None),
 ];
@@ -46,11 +48,18 @@ fn main() {
     let oracle = package.parent().expect("the package stands in oracle/");
     let out = PathBuf::from(env::var("OUT_DIR").expect("cargo sets it"));
     let is_counted = env::var("CARGO_FEATURE_COUNTED").is_ok();
+    let is_limited = env::var("CARGO_FEATURE_LIMITED").is_ok();
+    if is_counted && is_limited {
+        panic!("the features `counted` and `limited` go into separate builds");
+    }
 
     let mut table = String::new();
     let mut counted = 0;
     for (file, child) in FILES {
-        let source = read(&oracle.join("ironplc").join(file));
+        let mut source = read(&oracle.join("ironplc").join(file));
+        if is_limited && file == RESOLVER {
+            source = limit_calls::with_limit(&source).unwrap_or_else(|error| panic!("{error}"));
+        }
         let arms = match is_counted {
             true => counted_arms(file, &source),
             false => Vec::new(),
@@ -77,6 +86,7 @@ fn main() {
         oracle.join("ironplc").display()
     );
     println!("cargo:rerun-if-changed=../analyzer/build.rs");
+    println!("cargo:rerun-if-changed=../analyzer/limit_calls.rs");
 }
 
 /// The arms of `file` that are counted.

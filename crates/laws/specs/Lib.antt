@@ -9,3 +9,5 @@ pub mod Held
 pub mod Outcomes
 pub mod Ranks
 pub mod Circles
+pub mod Cuts
+pub mod Passing

@@ -1,5 +1,6 @@
 //! The unchanged resolver, asked about the types and variables of a
-//! declaration file. Compiled once for each default string length.
+//! declaration file. Compiled once for each default string length. With the
+//! feature `limited` the resolver keeps document 01's limit on trees.
 
 // The unchanged files, from the build folder.
 include!(concat!(env!("OUT_DIR"), "/modules.rs"));
@@ -30,11 +31,17 @@ pub fn answer(file: File) -> Result<Answers, Huge> {
     let mut answers = Answers::default();
     for number in 0..file.count(TYPES) as u32 {
         let value = questions.type_default(TypeId(number));
+        if questions.met_limit() {
+            answers.large.types.insert(number);
+        }
         answers.types.push(nodes::of_value(value)?);
     }
     for number in 0..file.count(VARIABLES) as u32 {
         let variable = syntax.variable(number);
         let value = questions.declaration(&variable);
+        if questions.met_limit() {
+            answers.large.variables.insert(number);
+        }
         answers.variables.push(nodes::of_value(value)?);
         let initializer = questions.completed(variable);
         answers.completed.push(nodes::of_initializer(initializer)?);

@@ -1,5 +1,6 @@
 //! The answers for one file, and the lines that print them.
 
+use std::collections::BTreeSet;
 use std::fmt::Write;
 
 /// Six words: name or 0, kind, then sign, low, high and width.
@@ -24,9 +25,19 @@ pub struct Answers {
     pub variables: Vec<Option<Tree>>,
     /// For each variable its completed initializer; `None` if it is left.
     pub completed: Vec<Option<Completed>>,
+    /// Which of the answers without a tree are too large instead of none.
+    pub large: Large,
     /// How often the fields of a block were looked for along a circle of
     /// alias bases that has no block record.
     pub circles: u64,
+}
+
+/// The types and variables whose work met document 01's limit on trees. The
+/// Rust has no such limit: there are some only with the feature `limited`.
+#[derive(Debug, Default, PartialEq)]
+pub struct Large {
+    pub types: BTreeSet<u32>,
+    pub variables: BTreeSet<u32>,
 }
 
 /// A completed initializer: its kind and the tree in its value slot.
@@ -40,8 +51,8 @@ impl Answers {
     /// The lines for types, for variables and for completed initializers.
     pub fn lines(&self) -> String {
         let mut lines = String::new();
-        print_trees(&mut lines, "type", &self.types);
-        print_trees(&mut lines, "var", &self.variables);
+        print_trees(&mut lines, "type", &self.types, &self.large.types);
+        print_trees(&mut lines, "var", &self.variables, &self.large.variables);
         for (number, completed) in self.completed.iter().enumerate() {
             match completed {
                 None => push_line(&mut lines, format_args!("done {number} left")),
@@ -59,9 +70,12 @@ impl Answers {
     }
 }
 
-fn print_trees(lines: &mut String, what: &str, trees: &[Option<Tree>]) {
-    for (number, tree) in trees.iter().enumerate() {
+fn print_trees(lines: &mut String, what: &str, trees: &[Option<Tree>], large: &BTreeSet<u32>) {
+    for (number, tree) in (0..).zip(trees) {
         match tree {
+            None if large.contains(&number) => {
+                push_line(lines, format_args!("{what} {number} large"))
+            }
             None => push_line(lines, format_args!("{what} {number} none")),
             Some(tree) => {
                 push_line(lines, format_args!("{what} {number} {}", tree.len()));
@@ -92,8 +106,8 @@ mod tests {
     #[test]
     fn each_answer_has_its_lines() {
         let answers = Answers {
-            types: vec![None, Some(vec![[0, 1, 1, 5, 0, 0]])],
-            variables: vec![Some(vec![[0, 14, 0, 1, 0, 0], [7, 0, 0, 1, 0, 0]])],
+            types: vec![None, Some(vec![[0, 1, 1, 5, 0, 0]]), None],
+            variables: vec![Some(vec![[0, 14, 0, 1, 0, 0], [7, 0, 0, 1, 0, 0]]), None],
             completed: vec![
                 None,
                 Some(Completed {
@@ -101,10 +115,15 @@ mod tests {
                     tree: vec![[0, 13, 0, 0, 0, 0]],
                 }),
             ],
+            large: Large {
+                types: BTreeSet::from([2]),
+                variables: BTreeSet::from([1]),
+            },
             circles: 0,
         };
-        let expected = "type 0 none\ntype 1 1\n0 1 1 5 0 0\nvar 0 2\n0 14 0 1 0 0\n\
-                        7 0 0 1 0 0\ndone 0 left\ndone 1 completed 9 1\n0 13 0 0 0 0\n";
+        let expected = "type 0 none\ntype 1 1\n0 1 1 5 0 0\ntype 2 large\nvar 0 2\n\
+                        0 14 0 1 0 0\n7 0 0 1 0 0\nvar 1 large\ndone 0 left\n\
+                        done 1 completed 9 1\n0 13 0 0 0 0\n";
         assert_eq!(answers.lines(), expected);
     }
 }

@@ -2,6 +2,7 @@
 
 pub mod memory;
 pub mod outcome;
+pub mod program;
 #[cfg(feature = "counted")]
 pub mod unreachable;
 pub mod worker;

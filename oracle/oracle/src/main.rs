@@ -1,77 +1,14 @@
-//! Reads framed declaration files from standard input and prints what the Rust
-//! answers for each.
+//! Prints what the Rust answers for declaration files, as it is.
 
-use std::io::{self, BufWriter, Write};
 use std::process::ExitCode;
 
-use files::frames;
-use oracle::outcome::{outcome, HUGE};
-use oracle::worker::{self, Worker};
+use oracle::program;
 
 fn main() -> ExitCode {
-    let arguments: Vec<String> = std::env::args().skip(1).collect();
-    let arguments: Vec<&str> = arguments.iter().map(String::as_str).collect();
-    let result = match arguments[..] {
-        [] => print_all(),
-        [worker::ARGUMENT] => worker::serve(reply),
-        _ => {
-            eprintln!("usage: oracle < FRAMED-FILES");
-            return ExitCode::from(2);
-        }
-    };
-    match result {
-        Ok(()) => ExitCode::SUCCESS,
-        Err(error) => {
-            eprintln!("oracle: {error}");
-            ExitCode::FAILURE
-        }
+    // Cargo builds every program of a package with the same features.
+    if cfg!(feature = "limited") {
+        eprintln!("oracle: built with the feature `limited`, so it would not be the Rust as it is");
+        return ExitCode::FAILURE;
     }
-}
-
-/// Prints the lines of every file. What was printed before an error stays.
-fn print_all() -> io::Result<()> {
-    let mut output = BufWriter::new(io::stdout().lock());
-    let mut circles = 0;
-    let printed = print_files(&mut output, &mut circles);
-    output.flush()?;
-    if circles > 0 {
-        eprintln!(
-            "oracle: circles of alias bases without a block record, each answered with none: \
-             {circles}"
-        );
-    }
-    printed
-}
-
-fn print_files(output: &mut impl Write, circles: &mut u64) -> io::Result<()> {
-    let mut input = io::stdin().lock();
-    let mut worker = Worker::new();
-    let mut number = 0u64;
-    while let Some(words) = frames::read(&mut input).map_err(|error| in_file(number, error))? {
-        let reply = worker.ask(&words);
-        let reply = reply.map_err(|error| in_file(number, error))?;
-        writeln!(output, "file {number}")?;
-        match reply {
-            None => output.write_all(HUGE.as_bytes())?,
-            Some(reply) => {
-                let (met, lines) = reply.split_first_chunk().expect("a count stands in front");
-                *circles += u64::from_le_bytes(*met);
-                output.write_all(lines)?;
-            }
-        }
-        number += 1;
-    }
-    Ok(())
-}
-
-fn in_file(number: u64, error: io::Error) -> io::Error {
-    io::Error::new(error.kind(), format!("file {number}: {error}"))
-}
-
-/// The worker's reply for a file: how many circles were met, then the lines.
-fn reply(words: &[u32]) -> Vec<u8> {
-    let outcome = outcome(words);
-    let mut reply = outcome.circles().to_le_bytes().to_vec();
-    reply.extend(outcome.lines().into_bytes());
-    reply
+    program::run("oracle")
 }

@@ -41,6 +41,14 @@ impl<'a> Questions<'a> {
         initializer.is_completed().then_some(initializer)
     }
 
+    /// Whether the last question ended because a tree was too large.
+    pub(crate) fn met_limit(&self) -> bool {
+        #[cfg(feature = "limited")]
+        return super::resolver::access::limit::is_met();
+        #[cfg(not(feature = "limited"))]
+        false
+    }
+
     fn fresh(&mut self) -> &mut InitialValueFolder<'a> {
         self.folder.resolver.renew(self.context.type_defaults());
         &mut self.folder

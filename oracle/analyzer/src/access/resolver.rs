@@ -1,5 +1,8 @@
 //! A child module of resolver.rs, which may call what is private there.
 
+#[cfg(feature = "limited")]
+pub(crate) mod limit;
+
 use ironplc_dsl::type_id::TypeId;
 
 use super::{Resolver, TypeDefaults, Value};
@@ -18,6 +21,8 @@ impl Resolver<'_> {
     pub(crate) fn renew(&mut self, type_defaults: &TypeDefaults) {
         let known = &type_defaults.defaults;
         self.defaults.retain(|id, _| known.contains_key(id));
+        #[cfg(feature = "limited")]
+        limit::renew(|id| known.contains_key(id));
         assert!(self.resolving.is_empty() && self.defaults.len() == known.len());
     }
 }
