@@ -1,7 +1,6 @@
 -- What a computation asks for, and what it results in. Assumes nothing.
-use mathlib.Core.Path.{_≡_, refl}
 use Prim.Native.Nat.{ℕ}
-use Rattle.definition.specs.Ask.{Result, ok, none, large, Outcome, Ask, done, ask, bind, onOk, _>>=_}
+use Rattle.definition.specs.Ask.{Result, ok, none, large, Outcome, Ask, done, ask, bind, _>>=_}
 
 -- every ask is of a P, if each answer for d is a W d; and then the result is a Q
 abbrev pub Asks : {A : Type 0} → (ℕ → Type 0) → (ℕ → Outcome → Type 0) → (A → Type 0) → Ask A → Type 0

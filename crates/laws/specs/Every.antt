@@ -7,10 +7,7 @@ use Prim.Native.Nat.{ℕ, zero, suc, _<_}
 use native.Mathlib.Omega.{arith}
 use native.Mathlib.Decide.{ℕ-discrete}
 use Rattle.definition.specs.Base.{every}
-
-pub both : (a b : Bool) → (a && b) ≡ true → (a ≡ true) × (b ≡ true)
-both true b h = (refl, h)
-both false b h = let z : _≡_ {A = ℕ} 0 1 = cc in absurd (omega arith)
+use Rattle.laws.specs.Cases.{both}
 
 -- ---- below a count
 module _ (p : ℕ → Bool) where

@@ -16,7 +16,8 @@ use Rattle.definition.specs.Resolve.{typeOutcome}
 use Rattle.definition.specs.Lines.{outcomeWords, typeLine, variableLine, completedLine}
 use Rattle.definition.specs.Uses.{rising, uses}
 use Rattle.definition.specs.Sheet.{linesFrom, sheetWith, typeCut, variableCut, completedCut, Section, section, unreadable, onSection, readSection, Sheet, Read, read, no, readSheet, sheetRank, ranksRise, sameWords, linesRight, onRead, checkAnswer}
-use Rattle.laws.specs.Every.{both, every-true}
+use Rattle.laws.specs.Cases.{both}
+use Rattle.laws.specs.Every.{every-true}
 use Rattle.laws.specs.Cuts.{allWords, type-back, variable-back, completed-back, section-back, lines-of}
 
 -- ---- equal words
@@ -72,13 +73,13 @@ module _ (f s : List ℕ) (sheet : Sheet) where
 
   second : (ts : List (List ℕ)) (l : List ℕ) → readSection typeCut (count f types) s ≡ section ts l → (z : Section) → readSection variableCut (count f variables) l ≡ z
       → onSection z no (λ vs m. onSection (readSection completedCut (count f variables) m) no (λ cs n.
-          pick (eqb (length n) 0) (read (record { typeLines = ts; variableLines = vs; completedLines = cs })) no)) ≡ read sheet → Stands f s sheet
+      pick (eqb (length n) 0) (read (record { typeLines = ts; variableLines = vs; completedLines = cs })) no)) ≡ read sheet → Stands f s sheet
   second ts l p (section vs m) q e = third ts vs l m p q (readSection completedCut (count f variables) m) refl e
   second ts l p unreadable q e = let z : _≡_ {A = ℕ} 0 1 = cc in absurd (omega arith)
 
   first : (z : Section) → readSection typeCut (count f types) s ≡ z
       → onSection z no (λ ts l. onSection (readSection variableCut (count f variables) l) no (λ vs m. onSection (readSection completedCut (count f variables) m) no (λ cs n.
-          pick (eqb (length n) 0) (read (record { typeLines = ts; variableLines = vs; completedLines = cs })) no))) ≡ read sheet → Stands f s sheet
+      pick (eqb (length n) 0) (read (record { typeLines = ts; variableLines = vs; completedLines = cs })) no))) ≡ read sheet → Stands f s sheet
   first (section ts l) p e = second ts l p (readSection variableCut (count f variables) l) refl e
   first unreadable p e = let z : _≡_ {A = ℕ} 0 1 = cc in absurd (omega arith)
 
@@ -109,21 +110,21 @@ module _ (f s : List ℕ) (sheet : Sheet) (stands : Stands f s sheet) (right : l
   unfolding typeLine sheetRank
   type-words =
       lines-of (λ t. sheetRank sheet t ∷ typeLine f t) 0 (sheet .typeLines) (λ t l.
-          let i : t < count f types = omega (arith, stands .typesAll) in
-          let e : drop 1 (getD (sheet .typeLines) t []) ≡ typeLine f t = same-words _ _ (every-true _ (count f types) (parts .0 .0) t i) in
-          rw (zero-add t) (type-line (getD (sheet .typeLines) t []) (typeOutcome f t) e))
+      let i : t < count f types = omega (arith, stands .typesAll) in
+      let e : drop 1 (getD (sheet .typeLines) t []) ≡ typeLine f t = same-words _ _ (every-true _ (count f types) (parts .0 .0) t i) in
+      rw (zero-add t) (type-line (getD (sheet .typeLines) t []) (typeOutcome f t) e))
       ∙ ap (linesFrom (λ t. sheetRank sheet t ∷ typeLine f t) 0) (stands .typesAll)
 
   variable-words : allWords (sheet .variableLines) ≡ linesFrom (variableLine f) 0 (count f variables)
   variable-words =
       lines-of (variableLine f) 0 (sheet .variableLines) (λ v l.
-          rw (zero-add v) (same-words _ _ (every-true _ (count f variables) (parts .0 .1) v (omega (arith, stands .variablesAll)))))
+      rw (zero-add v) (same-words _ _ (every-true _ (count f variables) (parts .0 .1) v (omega (arith, stands .variablesAll)))))
       ∙ ap (linesFrom (variableLine f) 0) (stands .variablesAll)
 
   completed-words : allWords (sheet .completedLines) ≡ linesFrom (completedLine f) 0 (count f variables)
   completed-words =
       lines-of (completedLine f) 0 (sheet .completedLines) (λ v l.
-          rw (zero-add v) (same-words _ _ (every-true _ (count f variables) (parts .1) v (omega (arith, stands .completedAll)))))
+      rw (zero-add v) (same-words _ _ (every-true _ (count f variables) (parts .1) v (omega (arith, stands .completedAll)))))
       ∙ ap (linesFrom (completedLine f) 0) (stands .completedAll)
 
   pub right-words : s ≡ sheetWith f (sheetRank sheet)
