@@ -2,7 +2,7 @@
 use mathlib.Core.Path.{_≡_, refl}
 use mathlib.Core.List.{List, [], _∷_, _++_, map}
 use Prim.Native.Nat.{ℕ}
-use lib.ListN.{length}
+use lib.ListN.{length, take}
 use Rattle.definition.specs.Base.{inline}
 use Rattle.definition.specs.Accept.{verdict}
 use Rattle.definition.specs.Lines.{typeLine, variableLine}
@@ -155,6 +155,48 @@ rows =
     row (subrange-and-alias (subrange-of 2 ∷ alias-of 1 ∷ []) 1) writing (9 ∷ []) ∷
     row (subrange-and-alias (alias-of 2 ∷ subrange-of 1 ∷ []) 2) writing (9 ∷ []) ∷
     []
+
+-- ---- one file for each refusal of 1 to 6, and its neighbours that meet none
+-- a file of shapes, dimensions and types alone
+shaped : Records → Records → Records → List ℕ
+shaped shapes dimensions types = file 254 shapes dimensions types [] [] [] [] [] []
+
+refused : List (List ℕ)
+refused =
+    -- a word short, a word long
+    take 14 (shaped [] [] []) ∷
+    (shaped [] [] [] ++ (0 ∷ [])) ∷
+    -- two Settings
+    sections (((254 ∷ []) ∷ (254 ∷ []) ∷ []) ∷ [] ∷ [] ∷ [] ∷ [] ∷ [] ∷ [] ∷ [] ∷ [] ∷ [] ∷ [] ∷ [] ∷ [] ∷ [] ∷ []) ∷
+    -- INT of 12 bits; a dimension 1..0
+    shaped (int 12 ∷ []) [] [] ∷
+    shaped [] ((1 ∷ 0 ∷ []) ∷ []) [] ∷
+    -- a structure of one field where there is none, and one declared with an element where there is none; a reference to itself; a type of a shape that isn't there
+    shaped ((11 ∷ 0 ∷ 1 ∷ 0 ∷ 0 ∷ []) ∷ []) [] [] ∷
+    shaped (bool ∷ []) [] ((0 ∷ 0 ∷ 0 ∷ 0 ∷ 5 ∷ 0 ∷ 0 ∷ 0 ∷ 1 ∷ inline ∷ 0 ∷ []) ∷ []) ∷
+    shaped ((16 ∷ 0 ∷ 0 ∷ 0 ∷ 0 ∷ []) ∷ []) [] [] ∷
+    shaped (bool ∷ []) [] (type 1 0 ∷ []) ∷
+    -- two shapes BOOL
+    shaped (bool ∷ bool ∷ []) [] [] ∷
+    -- an array 0..65536
+    shaped (bool ∷ (12 ∷ 0 ∷ 0 ∷ 1 ∷ 0 ∷ []) ∷ []) ((0 ∷ 65536 ∷ []) ∷ []) [] ∷
+    -- none: nothing at all but Settings; an array 1..65536
+    shaped [] [] [] ∷
+    shaped (bool ∷ (12 ∷ 0 ∷ 0 ∷ 1 ∷ 0 ∷ []) ∷ []) ((1 ∷ 65536 ∷ []) ∷ []) (type 1 0 ∷ []) ∷
+    []
+
+refusals : map verdict refused ≡ 1 ∷ 1 ∷ 2 ∷ 3 ∷ 3 ∷ 4 ∷ 4 ∷ 4 ∷ 4 ∷ 5 ∷ 6 ∷ 0 ∷ 0 ∷ []
+unfolding computing refused shaped file sections section joinAll bool int type
+refusals = refl
+
+-- ---- an array of 2,047 INT has a tree, 2,048 is too large
+array-of : ℕ → List ℕ
+array-of places = file 254 (int 16 ∷ (12 ∷ 0 ∷ 0 ∷ 1 ∷ 0 ∷ []) ∷ []) ((1 ∷ places ∷ []) ∷ []) (type 0 0 ∷ type 1 1 ∷ []) [] [] [] [] [] []
+
+-- state and count
+limit : take 2 (typeLine (array-of 2047) 1) ++ typeLine (array-of 2048) 1 ≡ 0 ∷ 2048 ∷ 2 ∷ 0 ∷ []
+unfolding computing array-of file sections section joinAll int type
+limit = refl
 
 -- ---- every row's file is accepted, and every answer is the paper's
 accepted : map (λ r. verdict (r .about)) rows ≡ map (λ r. 0) rows

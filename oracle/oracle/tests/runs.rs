@@ -2,33 +2,14 @@
 
 mod common;
 
-use std::io::Write;
-use std::process::{Command, Output, Stdio};
+use std::process::{Command, Output};
 
 use common::*;
-use files::frames;
 use files::layout::*;
 
 /// What the program gives for `input`.
 fn run(input: &[u8]) -> Output {
-    let mut child = Command::new(env!("CARGO_BIN_EXE_oracle"))
-        .stdin(Stdio::piped())
-        .stdout(Stdio::piped())
-        .stderr(Stdio::piped())
-        .spawn()
-        .expect("the program starts");
-    let mut pipe = child.stdin.take().expect("it is piped");
-    pipe.write_all(input).expect("the program reads its input");
-    drop(pipe);
-    child.wait_with_output().expect("the program ends")
-}
-
-fn framed(files: &[Vec<u32>]) -> Vec<u8> {
-    let mut bytes = Vec::new();
-    for words in files {
-        frames::write(&mut bytes, words).expect("memory takes any bytes");
-    }
-    bytes
+    run_program(env!("CARGO_BIN_EXE_oracle"), input)
 }
 
 /// One Bool type and one plain variable.
@@ -53,10 +34,6 @@ fn nested(places: u32, inner: u32) -> Vec<u32> {
     let row = draft.type_of(row, [0, int, 0], [0; 5]);
     draft.type_of(rows, [0, row, 0], [0; 5]);
     draft.words()
-}
-
-fn text(bytes: &[u8]) -> String {
-    String::from_utf8(bytes.to_vec()).expect("it prints text")
 }
 
 #[test]

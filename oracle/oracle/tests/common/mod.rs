@@ -1,7 +1,11 @@
-//! Builds declaration files by hand, record by record.
+//! Builds declaration files by hand, record by record, and runs programs.
 #![allow(dead_code)] // Each test program uses a part of this.
 
+use std::io::Write;
+use std::process::{Command, Output, Stdio};
+
 use answers::{Answers, Completed, Node};
+use files::frames;
 use files::layout::*;
 use files::records::Records;
 use files::verdict::verdict;
@@ -160,4 +164,30 @@ pub fn integers(values: &[i64]) -> Vec<Node> {
 pub fn completed(kind: u32, tree: &[Node]) -> Option<Completed> {
     let tree = tree.to_vec();
     Some(Completed { kind, tree })
+}
+
+/// What the program at `path` gives for `input`.
+pub fn run_program(path: &str, input: &[u8]) -> Output {
+    let mut child = Command::new(path)
+        .stdin(Stdio::piped())
+        .stdout(Stdio::piped())
+        .stderr(Stdio::piped())
+        .spawn()
+        .expect("the program starts");
+    let mut pipe = child.stdin.take().expect("it is piped");
+    pipe.write_all(input).expect("the program reads its input");
+    drop(pipe);
+    child.wait_with_output().expect("the program ends")
+}
+
+pub fn framed(files: &[Vec<u32>]) -> Vec<u8> {
+    let mut bytes = Vec::new();
+    for words in files {
+        frames::write(&mut bytes, words).expect("memory takes any bytes");
+    }
+    bytes
+}
+
+pub fn text(bytes: &[u8]) -> String {
+    String::from_utf8(bytes.to_vec()).expect("it prints text")
 }

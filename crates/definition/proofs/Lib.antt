@@ -1,0 +1,9 @@
+pub mod Files0
+pub mod Files1
+pub mod Files2
+pub mod Files3
+pub mod Files4
+pub mod Files5
+pub mod Refused0
+pub mod Refused1
+pub mod Refused2
