@@ -380,3 +380,8 @@ verdict f =
     need (pointsRight f) 4 λ u4.
     need (shapesDiffer f) 5 λ u5.
     need (arraysSmall f) 6 λ u6. 0
+
+-- what this file computes with
+unfoldable pub opened : Unit {0}
+unfolding endsRight countsRight isName isBits biased shapePlain shapeFieldPlain dimensionPlain typePlain blockFieldPlain initializerPlain entryPlain expressionPlain constantPlain plainRules everyRecord wordsRight numberIn linkIn runIn runOf constantIn linkTo memberEntry arrayEntry enumeratedEntry shapePoints nameIn declarationPoints blockPoints typePoints referencePoints valuePoints initializerPoints lowerRun entryPoints expressionPoints constantPoints pointRules pointsRight listed sameMember sameField sameDimension sameInteger sameLink likeBy shapesLike alike shapesDiffer sameUpTo sameShape dimensionSpan elementsOf arraySmall arraysSmall verdict
+opened = tt

@@ -135,3 +135,8 @@ checkRefused f sheet work =
 
 unfoldable pub passAnswer : List ℕ → List ℕ → ℕ → CheckAnswer
 passAnswer f sheet work = answered (checkRefused f sheet work) checking.Refused (λ u. checking.Passes)
+
+-- what this file computes with
+unfoldable pub opened : Unit {0}
+unfolding acceptAnswer resolverWords writerWords checkWords wordsAnswer cleared refusedFirst over treeAnswer treeWords typeRefused typeTreeAnswer typeTreeWords variableRefused variableTreeAnswer variableTreeWords completedAnswerOf completedOutcome completedTree completedAnswer completedOut writeRefused writtenAnswer writeAnswer writeOut checkRefused passAnswer
+opened = tt

@@ -52,3 +52,8 @@ gathered size ts = choose (leb (suc (size + nodesIn ts)) mostNodes) (λ u. done 
 -- some, then more, which know how many there are so far and how many nodes those have
 unfoldable pub andMore : ℕ → ℕ → Ask (Result Trees) → (ℕ → ℕ → Ask (Result Trees)) → Ask (Result Trees)
 andMore made size some more = some >>= λ ts. more (made + many ts) (size + nodesIn ts) >>= λ us. give (join ts us)
+
+-- what this file computes with
+unfoldable pub opened : Unit {0}
+unfolding bind _>>=_ give nothing typeDefault formed gathered andMore
+opened = tt

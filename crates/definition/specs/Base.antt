@@ -40,3 +40,8 @@ joined low high = low + high * 2 ^ 32
 -- the word that stands for "inline" in a named type, and for "no block record"
 abbrev pub inline : ℕ
 inline = 4294967295
+
+-- what this file computes with
+unfoldable pub opened : Unit {0}
+unfolding every unused joined
+opened = tt

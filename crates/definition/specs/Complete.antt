@@ -92,3 +92,8 @@ unfoldable pub completion : List ℕ → ℕ → Outcome → Completed
 completion f v o =
     let i : ℕ = word f variables v 3 in
     onTree o (λ t. orRetyped (complete f (initializerKind f i) t) (retyped f v i t))
+
+-- what this file computes with
+unfoldable pub opened : Unit {0}
+unfolding writtenNode written writtenParts asSigned slotTakes complete kindForShape retyped completion
+opened = tt

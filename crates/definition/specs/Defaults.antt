@@ -283,3 +283,8 @@ bodyBy f t place decl.Unknown = nothing
 -- ---- the default of the type t as its record says it (`type_default`)
 unfoldable pub body : List ℕ → ℕ → Ask Outcome
 body f t = bodyBy f t (placeOf f t) (declarationAt f t)
+
+-- what this file computes with
+unfoldable pub opened : Unit {0}
+unfolding onNamed flat repeatedDefaults elementDefaults arrayBy added copied defaulted field fieldsBy structured implicitBy defaultBy implicitUpTo implicit defaultOf expand arrayOf constantAs enumeratedAs referenceAs initializerBy initializer declaration nameDefault specDefault aliasDefaultBy subrangeDefault elementsFrom isInstance variableField instanceFrom bodyBy body
+opened = tt

@@ -50,3 +50,8 @@ shapeDepth f s = shapeDepthUpTo f (suc s) s
 -- how many trees can be under construction at once: one for each level of entries and of shapes, and the outermost
 unfoldable pub levels : List ℕ → ℕ
 levels f = suc (deepest (entryDepth f) 0 (count f entries) + deepest (shapeDepth f) 0 (count f shapes))
+
+-- what this file computes with
+unfoldable pub opened : Unit {0}
+unfolding deepest entryDepthFrom entryDepthUpTo entryDepth shapeDepthFrom shapeDepthUpTo shapeDepth levels
+opened = tt

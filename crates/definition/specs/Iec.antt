@@ -78,3 +78,8 @@ filled defaults values = join values (rest (many values) defaults)
 -- ---- 6.4.4.6: a named element takes the value stated for it, the others keep theirs
 unfoldable pub assigned : ℕ → Tree → Trees → Trees
 assigned name value fields = replaced name (named name value) fields
+
+-- what this file computes with
+unfoldable pub opened : Unit {0}
+unfolding number least greatest between inRange long defaultMember zeroOf asIntegerTree implicitScalar filled assigned
+opened = tt

@@ -12,3 +12,8 @@ formatOf bits = pick (eqb bits 64) binary64 binary32
 -- the bits of the f64 that is the rounded value
 unfoldable pub rounded : ℕ → Bool → ℕ → ℕ
 rounded bits negative size = toBits binary64 (round (formatOf bits) negative size 1)
+
+-- what this file computes with
+unfoldable pub opened : Unit {0}
+unfolding round toBits formatOf rounded
+opened = tt

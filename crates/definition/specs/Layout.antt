@@ -76,3 +76,8 @@ count f s = getD f (countAt f s) 0
 -- word k of record n of section s
 unfoldable pub word : List ℕ → ℕ → ℕ → ℕ → ℕ
 word f s n k = getD f (countAt f s + 1 + n * recordWords s + k) 0
+
+-- what this file computes with
+unfoldable pub opened : Unit {0}
+unfolding wordsOfRecords limitsOfRecords recordWords mostRecords behind countAt count word
+opened = tt

@@ -25,3 +25,8 @@ variableLine f v = outcomeWords (variableOutcome f v)
 
 unfoldable pub completedLine : List ℕ → ℕ → List ℕ
 completedLine f v = completedWords (completion f v (variableOutcome f v))
+
+-- what this file computes with
+unfoldable pub opened : Unit {0}
+unfolding outcomeWords completedWords typeLine variableLine completedLine
+opened = tt

@@ -16,3 +16,8 @@ pub data Peek (A : Type 0) : Type 0 where
 unfoldable pub peek : {A : Type 0} → Memo → Ask A → Peek A
 peek M (done a) = got a
 peek M (ask d k) = onLook (at M d) (λ o. peek M (k o)) (λ u. wants d)
+
+-- what this file computes with
+unfoldable pub opened : Unit {0}
+unfolding look peek
+opened = tt

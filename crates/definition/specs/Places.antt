@@ -128,3 +128,8 @@ stringPlace f i = pick (eqb (word f initializers i 6) inline) none (ok (bare (sh
 
 unfoldable pub variablePlace : List ℕ → ℕ → ℕ → Result Place
 variablePlace f v i = pick (eqb (initializerKind f i) 4) (stringPlace f i) (onLink (word f variables v 2) none (λ t. ok (placeOf f t)))
+
+-- what this file computes with
+unfoldable pub opened : Unit {0}
+unfolding bare placeOf typedPlace elementPlace innermost leafPlace hasBlock recordedUpTo recordedBlock firstNamed blockFieldType simpleTarget aliasTarget fieldDeclarationUpTo declaredTypes fieldDeclaration declaredType declaredElement structureFieldPlace fieldPlace namesIn blockNames blockFieldNames stringPlace variablePlace
+opened = tt

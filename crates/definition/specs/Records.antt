@@ -147,3 +147,8 @@ constantOf kind sign low high width = record { kind = kind; sign = sign; low = l
 
 unfoldable pub constantAt : List ℕ → ℕ → Constant
 constantAt f c = constantOf (word f constants c 0) (word f constants c 1) (word f constants c 2) (word f constants c 3) (word f constants c 4)
+
+-- what this file computes with
+unfoldable pub opened : Unit {0}
+unfolding shapeOf shapeAt typeShape aliasBase elementType referencedType declarationKind declarationOf declarationAt namedType initializerKind initializerOf initializerAt entryOf entryAt entryName expressionOf expressionAt constantOf constantAt
+opened = tt

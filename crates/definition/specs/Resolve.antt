@@ -74,3 +74,8 @@ typeOutcome f t = answer f (typeDefault t)
 
 unfoldable pub variableOutcome : List ℕ → ℕ → Outcome
 variableOutcome f v = answer f (declaration f v)
+
+-- what this file computes with
+unfoldable pub opened : Unit {0}
+unfolding at put empty run resolve asking resolveAll declaredBelow remembered answer typeOutcome variableOutcome
+opened = tt

@@ -121,3 +121,8 @@ expressionValue f s (Expr.conversion n (Expr.null m)) = ok (expressionTree n)
 expressionValue f s (Expr.conversion n (Expr.other m)) = ok (expressionTree n)
 expressionValue f s (Expr.null n) = ok (pick (isReference s) nullTree (expressionTree n))
 expressionValue f s (Expr.other n) = ok (expressionTree n)
+
+-- what this file computes with
+unfoldable pub opened : Unit {0}
+unfolding sizeOf valueOf isInteger kept asBool asInteger asReal asCount maxLength cutString asString converted asTree constantValue emptyString isMember enumeratedValue expressionValue
+opened = tt

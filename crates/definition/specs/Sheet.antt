@@ -156,3 +156,8 @@ checkAnswer f s =
     choose (eqb (verdict f) 0)
     (λ u. onRead (readSheet f s) (λ sheet. need (ranksRise f sheet) 12 λ v. need (linesRight f sheet) 13 λ w. 0) 11)
     (λ u. verdict f)
+
+-- what this file computes with
+unfoldable pub opened : Unit {0}
+unfolding linesFrom sheetWith sheetWords partsOf areTrees treeCut emptyCut typeCut variableCut completedCut cutLines readSection readSheet sheetRank ranksRise sameWords linesRight checkAnswer
+opened = tt

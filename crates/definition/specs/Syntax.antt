@@ -78,3 +78,8 @@ initAt f e = initUpTo f (suc e) e
 -- a run of entries
 unfoldable pub initsAt : List ℕ → ℕ → ℕ → Inits
 initsAt f first many = runFrom f (initAt f) first many
+
+-- what this file computes with
+unfoldable pub opened : Unit {0}
+unfolding exprFrom exprUpTo exprAt runFrom initFrom initUpTo initAt initsAt
+opened = tt

@@ -113,3 +113,8 @@ replaced name u (tcons t ts) = pick (eqb (head t .name) name) (tcons u ts) (tcon
 -- ---- the limit of refusal 8
 abbrev pub mostNodes : ℕ
 mostNodes = 2048
+
+-- what this file computes with
+unfoldable pub opened : Unit {0}
+unfolding head parts many nodes flatten leaf constantTree enumeratedTree nullTree referenceTree expressionTree headed arrayTree structureTree named join one times rest replaced
+opened = tt

@@ -88,3 +88,8 @@ ranking n used = let w : List ℕ = rounds n used n in pick (rising n used (rank
 
 unfoldable pub ranksOf : List ℕ → Ranking
 ranksOf f = ranking (count f types) (uses f)
+
+-- what this file computes with
+unfoldable pub opened : Unit {0}
+unfolding linked namedUse initializerUses elementUses variableUses blockFieldUses declarationUses blockUses uses raise table rankAt rounds rising ranking ranksOf
+opened = tt

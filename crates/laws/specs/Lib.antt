@@ -1,5 +1,9 @@
+-- What follows from the definition, in reading order.
+
+-- ---- small things
 pub mod Cases
 pub mod Every
+-- ---- computations that ask, and how they are answered
 pub mod Asks
 pub mod Binds
 pub mod Memo
@@ -8,22 +12,27 @@ pub mod Peeking
 pub mod Ranked
 pub mod Held
 pub mod Outcomes
+-- ---- ranks and circles
 pub mod Ranks
 pub mod Circles
+-- ---- trees and their words
 pub mod Whole
 pub mod Readable
 pub mod Values
+-- ---- the pass over the definition: what is asked for, and what results
 pub mod Links
 pub mod Gathers
 pub mod Nearby
 pub mod Starts
 pub mod Entries
 pub mod Meaning
+-- ---- accepted files
 pub mod Accepted
 pub mod Used
 pub mod Falling
 pub mod Completes
 pub mod Sizes
+-- ---- sheets
 pub mod Cuts
 pub mod Passing
 pub mod Writing
