@@ -35,14 +35,23 @@ shapePlain kind a b c d =
     let sized : Bool = isBits a && unused (b ∷ c ∷ d ∷ []) in
     let name : Bool = isName a && unused (b ∷ c ∷ d ∷ []) in
     getD (
+    -- 0 Bool
     unused (a ∷ b ∷ c ∷ d ∷ []) ∷
+    -- 1 Int, 2 UInt, 3 Real, 4 Bytes, 5 Time, 6 Date, 7 TimeOfDay, 8 DateAndTime: bits
     sized ∷ sized ∷ sized ∷ sized ∷ sized ∷ sized ∷ sized ∷ sized ∷
+    -- 9 String: 1 + length, width
     (leb b 1 && unused (c ∷ d ∷ [])) ∷
+    -- 10 Enumeration: run of members, default's place, link to underlying shape
     true ∷
+    -- 11 Structure: run of shape fields
     unused (c ∷ d ∷ []) ∷
+    -- 12 Array: element shape, run of dimensions
     unused (d ∷ []) ∷
+    -- 13 Subrange: base shape, least and greatest
     unused (d ∷ []) ∷
+    -- 14 FunctionBlock, 15 Interface: name
     name ∷ name ∷
+    -- 16 Reference: target shape
     unused (b ∷ c ∷ d ∷ []) ∷
     []) kind false
 
@@ -55,15 +64,23 @@ dimensionPlain lower upper = leb (biased lower) (biased upper)
 unfoldable pub typePlain : ℕ → ℕ → ℕ → ℕ → ℕ → Bool
 typePlain kind named start first many =
     getD (
+    -- 0 none
     unused (named ∷ start ∷ first ∷ many ∷ []) ∷
+    -- 1 simple: start value
     unused (named ∷ first ∷ many ∷ []) ∷
+    -- 2 subrange: named type, start value
     unused (first ∷ many ∷ []) ∷
+    -- 3 string: start value
     unused (named ∷ first ∷ many ∷ []) ∷
+    -- 4 array: named type, run of entries
     unused (start ∷ []) ∷
+    -- 5 structure: run of elements
     unused (named ∷ start ∷ []) ∷
+    -- 6 reference, 7 enumeration, 8 late bound: named type
     unused (start ∷ first ∷ many ∷ []) ∷
     unused (start ∷ first ∷ many ∷ []) ∷
     unused (start ∷ first ∷ many ∷ []) ∷
+    -- 9 function block: run of variables
     unused (named ∷ start ∷ []) ∷
     []) kind false
 
@@ -76,20 +93,44 @@ initializerPlain kind named element value first many length width =
     let valued : Bool = unused (element ∷ first ∷ many ∷ length ∷ width ∷ []) in
     let listed : Bool = unused (element ∷ value ∷ length ∷ width ∷ []) in
     getD (
+    -- 0 none, 1 interface
     none ∷ none ∷
+    -- 2 subrange, 3 simple: value
     valued ∷ valued ∷
+    -- 4 string: value, 1 + length, width
     (unused (element ∷ first ∷ many ∷ []) && leb width 1) ∷
+    -- 5 enumerated values, 6 enumerated type: value
     valued ∷ valued ∷
+    -- 7 function block, 8 structure: run of entries
     listed ∷ listed ∷
+    -- 9 array: run of entries; an element type only where the named type is inline
     (unused (value ∷ length ∷ width ∷ []) && (eqb named inline || eqb element 0)) ∷
+    -- 10 reference: value, no named type
     (eqb named 0 && valued) ∷
+    -- 11 late resolved: value
     valued ∷
+    -- 12 call, 13 and 14 expressions
     none ∷ none ∷ none ∷
     []) kind false
 
 unfoldable pub entryPlain : ℕ → ℕ → ℕ → Bool
-entryPlain kind a b = getD (unused (b ∷ []) ∷ isName a ∷ true ∷ true ∷ unused (b ∷ []) ∷ unused (a ∷ b ∷ []) ∷ true ∷ []) kind false
+entryPlain kind a b =
+    getD (
+    -- 0 constant
+    unused (b ∷ []) ∷
+    -- 1 enumerated: value name, qualifier
+    isName a ∷
+    -- 2 array, 3 structure: run
+    true ∷ true ∷
+    -- 4 expression
+    unused (b ∷ []) ∷
+    -- 5 late bound
+    unused (a ∷ b ∷ []) ∷
+    -- 6 repeat: count, link to inner entry
+    true ∷
+    []) kind false
 
+-- 0 constant, 1 enumerated entry, 2 parentheses, 3 implicit conversion, 4 null, 5 variable reference, 6 other
 unfoldable pub expressionPlain : ℕ → ℕ → Bool
 expressionPlain kind a = getD (true ∷ true ∷ true ∷ true ∷ unused (a ∷ []) ∷ unused (a ∷ []) ∷ unused (a ∷ []) ∷ []) kind false
 
@@ -98,11 +139,16 @@ constantPlain kind sign low high width =
     let signed : Bool = eqb sign 0 || (eqb sign 1 && not (unused (low ∷ high ∷ []))) in
     let wide : Bool = eqb sign 0 && leb width 1 in
     getD (
+    -- 0 boolean
     (leb low 1 && unused (sign ∷ high ∷ width ∷ [])) ∷
+    -- 1 integer
     (signed && unused (width ∷ [])) ∷
+    -- 2 bit string, 3 real
     unused (sign ∷ width ∷ []) ∷
     unused (sign ∷ width ∷ []) ∷
+    -- 4 duration
     (signed && leb width 1) ∷
+    -- 5 time of day, 6 date, 7 date and time, 8 string
     wide ∷ wide ∷ wide ∷ wide ∷
     []) kind false
 
@@ -170,11 +216,16 @@ unfoldable pub shapePoints : List ℕ → ℕ → ℕ → ℕ → ℕ → ℕ �
 shapePoints f n kind a b c d =
     getD (
     true ∷ true ∷ true ∷ true ∷ true ∷ true ∷ true ∷ true ∷ true ∷ true ∷
+    -- 10 Enumeration
     (runIn f members a b && leb d n) ∷
+    -- 11 Structure
     runOf f shapeFields (λ k. ltb (word f shapeFields k 1) n) a b ∷
+    -- 12 Array: at least one dimension
     (ltb a n && runIn f dimensions b c && not (eqb c 0)) ∷
+    -- 13 Subrange: two integer constants
     (ltb a n && constantIn f 1 b && constantIn f 1 c) ∷
     true ∷ true ∷
+    -- 16 Reference
     ltb a n ∷
     []) kind false
 
@@ -186,12 +237,19 @@ unfoldable pub declarationPoints : List ℕ → ℕ → ℕ → ℕ → ℕ → 
 declarationPoints f kind name start first many =
     getD (
     true ∷
+    -- 1 simple: an initializer, never 0
     onLink start false (numberIn f initializers) ∷
+    -- 2 subrange: an integer
     (nameIn f true name && linkTo (constantIn f 1) start) ∷
+    -- 3 string: a string
     linkTo (constantIn f 8) start ∷
+    -- 4 array
     (nameIn f true name && runOf f entries (arrayEntry f) first many) ∷
+    -- 5 structure
     runIn f elements first many ∷
+    -- 6 reference, 7 enumeration, 8 late bound
     nameIn f false name ∷ nameIn f false name ∷ nameIn f false name ∷
+    -- 9 function block
     runIn f variables first many ∷
     []) kind false
 
@@ -219,13 +277,21 @@ valuePoints f kind value first many =
     let listed : Bool = runOf f entries (memberEntry f) first many in
     getD (
     true ∷ true ∷
+    -- 2 subrange: an integer
     constant 1 ∷
+    -- 3 simple: any constant
     linkIn f constants value ∷
+    -- 4 string: a string
     constant 8 ∷
+    -- 5 enumerated values, 6 enumerated type
     enumerated ∷ enumerated ∷
+    -- 7 function block, 8 structure: member lists
     listed ∷ listed ∷
+    -- 9 array
     runOf f entries (arrayEntry f) first many ∷
+    -- 10 reference
     linkTo (referencePoints f) value ∷
+    -- 11 late resolved
     linkIn f constants value ∷
     true ∷ true ∷ true ∷
     []) kind false
