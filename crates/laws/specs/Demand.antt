@@ -13,13 +13,14 @@ use Rattle.definition.specs.Ask.{Outcome, Ask}
 use Rattle.definition.specs.Defaults.{body, declaration}
 use Rattle.definition.specs.Resolve.{typeOutcome, variableOutcome}
 use Rattle.definition.specs.Peek.{look}
-use Rattle.definition.specs.Uses.{uses, rising, ranked, ranksOf, rankAt}
+use Rattle.definition.specs.Uses.{uses, rising, ranked, circle, ranksOf, rankAt}
 use Rattle.definition.specs.Sheet.{sheetWith, sheetWords, checkAnswer}
 use Rattle.laws.specs.Asks.{Asks, OnOk}
 use Rattle.laws.specs.Peeking.{look-cong}
 use Rattle.laws.specs.Ranked.{Ranked}
 use Rattle.laws.specs.Outcomes.{types-solve, types-only, variables-look}
 use Rattle.laws.specs.Ranks.{Inside, Means, Lowest, ranking-means, true-rising, rising-true}
+use Rattle.laws.specs.Circles.{Circling, circle-circling, circling-circle}
 use Rattle.laws.specs.Values.{Small}
 use Rattle.laws.specs.Accepted.{accepted}
 use Rattle.laws.specs.Used.{uses-inside}
@@ -70,3 +71,8 @@ module _ (f : List ℕ) (e : verdict f ≡ 0) where
     pub writer-passes : checkAnswer f (sheetWords f) ≡ 0
     unfolding sheetWords
     writer-passes = rw q (right-passes f (rankAt w) e (rising-true (count f types) (uses f) (rankAt w) (writer-lowest .up)))
+
+  -- refusal 9 stands exactly where a type comes back to itself along uses
+  pub writer-circle : (ranksOf f ≡ circle) ↔ Circling (count f types) (uses f)
+  unfolding ranksOf
+  writer-circle = (circle-circling inside, circling-circle inside)
