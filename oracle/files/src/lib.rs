@@ -3,5 +3,6 @@
 pub mod frames;
 pub mod layout;
 pub mod records;
+pub mod refusals;
 pub mod text;
 pub mod verdict;

@@ -1,0 +1,5 @@
+pub mod Node
+pub mod String
+pub mod Convert
+pub mod Default
+pub mod Members
