@@ -1,7 +1,7 @@
 -- What each public function answers, and what it leaves in the words that it is lent: out holds the answer at its front and keeps the rest; a refusal, none and left
 -- keep all of out; work words always end as 0 (document 01, after the refusals).
 use mathlib.Core.Bool.{Bool}
-use mathlib.Core.List.{List, [], _++_}
+use mathlib.Core.List.{List, [], _∷_, _++_}
 use Prim.Native.Nat.{ℕ, _+_, _*_, min}
 use lib.Dec.{eqb, leb, ltb}
 use lib.ListN.{length, drop, replicate}
@@ -136,7 +136,42 @@ checkRefused f sheet work =
 unfoldable pub passAnswer : List ℕ → List ℕ → ℕ → CheckAnswer
 passAnswer f sheet work = answered (checkRefused f sheet work) checking.Refused (λ u. checking.Passes)
 
+-- ---- what each case of an answer says: document 01's refusal or 0, its state (0 value, 1 none or left), and its values
+pub record Says : Type 0 where
+  pub refusal : ℕ
+  pub state : ℕ
+  pub values : List ℕ
+
+unfoldable pub says : ℕ → ℕ → List ℕ → Says
+says refusal state values = record { refusal = refusal; state = state; values = values }
+
+unfoldable pub acceptanceSays : Acceptance → Says
+acceptanceSays acceptance.Accepted = says 0 0 []
+acceptanceSays (acceptance.Refused n) = says n 0 []
+
+unfoldable pub wordsSay : WorkWords → Says
+wordsSay (workWords.Words n) = says 0 0 (n ∷ [])
+wordsSay (workWords.Refused n) = says n 0 []
+
+unfoldable pub treeSays : TreeAnswer → Says
+treeSays (tree.Tree nodes) = says 0 0 (nodes ∷ [])
+treeSays tree.None = says 0 1 []
+treeSays (tree.Refused n) = says n 0 []
+
+unfoldable pub completedSays : CompletedAnswer → Says
+completedSays (completing.Completed kind nodes) = says 0 0 (kind ∷ nodes ∷ [])
+completedSays completing.Left = says 0 1 []
+completedSays (completing.Refused n) = says n 0 []
+
+unfoldable pub sheetSays : SheetAnswer → Says
+sheetSays (writing.Written words) = says 0 0 (words ∷ [])
+sheetSays (writing.Refused n) = says n 0 []
+
+unfoldable pub checkSays : CheckAnswer → Says
+checkSays checking.Passes = says 0 0 []
+checkSays (checking.Refused n) = says n 0 []
+
 -- what this file computes with
 unfoldable pub opened : Unit {0}
-unfolding acceptAnswer resolverWords writerWords checkWords wordsAnswer cleared refusedFirst over treeAnswer treeWords typeRefused typeTreeAnswer typeTreeWords variableRefused variableTreeAnswer variableTreeWords completedAnswerOf completedOutcome completedTree completedAnswer completedOut writeRefused writtenAnswer writeAnswer writeOut checkRefused passAnswer
+unfolding says acceptanceSays wordsSay treeSays completedSays sheetSays checkSays acceptAnswer resolverWords writerWords checkWords wordsAnswer cleared refusedFirst over treeAnswer treeWords typeRefused typeTreeAnswer typeTreeWords variableRefused variableTreeAnswer variableTreeWords completedAnswerOf completedOutcome completedTree completedAnswer completedOut writeRefused writtenAnswer writeAnswer writeOut checkRefused passAnswer
 opened = tt

@@ -1,0 +1,167 @@
+-- Comparing shapes: classes, links, runs, and the lowest shape that is like another. Assumes nothing.
+use mathlib.Core.Path.{_≡_, refl, sym, _∙_}
+use mathlib.Core.Bool.{Bool, true, false, not, _&&_, _||_}
+use mathlib.Core.List.{List, [], _∷_}
+use Prim.Native.Nat.{ℕ, zero, suc, _+_, _-_, _<_, _≤_}
+use native.Mathlib.Omega.{arith}
+use native.Mathlib.Decide.{ℕ-discrete}
+use native.Mathlib.Numerals.{add-one}
+use lib.Dec.{eqb, ltb}
+use lib.ListN.{length, getD, List·getD-eq-default}
+use borrow.Author.Needs.{needs}
+use borrow.Author.Tests.{eq-eqb, ne-eqb, lt-ltb, le-ltb, ltb-true, ltb-false}
+use Rattle.definition.specs.Base.{pick, every}
+use Rattle.definition.specs.Layout.{shapes, members, word}
+use Rattle.definition.specs.Records.{shapeAt}
+use Rattle.definition.specs.Accept.{sameMember, sameField, sameDimension, listed, sameLink, shapesLike, alike}
+use Rattle.records.specs.declared.alike.Listing.{Listing}
+use Rattle.records.specs.declared.alike.Listing.the-variants.{Members, Fields, Dimensions}
+use Rattle.records.specs.Alike.{classIn, sameIn, sameListed, likeAt, membersLike, arrayLike, lowest, firstLike}
+use Rattle.records.proofs.Listed.{and-true, and-false}
+use Rattle.records.proofs.Scanning.{scans}
+
+-- ---- classes
+pub class-there : (l : List ℕ) (n : ℕ) → n < length l → getD l n 0 ≡ classIn l n
+class-there l n h = go l n n h
+  where
+    go : (l : List ℕ) (n d : ℕ) → n < length l → getD l n 0 ≡ getD l n d
+    go [] n d h = absurd (omega arith)
+    go (x ∷ l) zero d h = refl
+    go (x ∷ l) (suc n) d h = go l n d (omega arith)
+
+pub class-past : (l : List ℕ) (n : ℕ) → length l ≤ n → n ≡ classIn l n
+class-past l n h = sym (List·getD-eq-default l n h)
+
+-- ---- links
+module _ (same : ℕ → ℕ → Bool) (m n : ℕ) where
+  pub link-none : m ≡ 0 → eqb n 0 ≡ sameLink same m n
+  unfolding sameLink
+  link-none e = rw e
+
+  pub link-one : (m ≡ 0 → ⊥) → n ≡ 0 → false ≡ sameLink same m n
+  unfolding sameLink
+  link-one p e = let q : m ≡ suc (m - 1) = omega (arith, p) in rw (q, e)
+
+  pub link-both : (m ≡ 0 → ⊥) → (n ≡ 0 → ⊥) → {r : Bool} → r ≡ same (m - 1) (n - 1) → r ≡ sameLink same m n
+  unfolding sameLink
+  link-both p o h = let q : m ≡ suc (m - 1) = omega (arith, p) in let k : n ≡ suc (n - 1) = omega (arith, o) in rw (q, k) h
+
+-- ---- runs
+module _ (same : ℕ → ℕ → Bool) (a m b n : ℕ) where
+  pub runs-differ : (m ≡ n → ⊥) → false ≡ listed same a m b n
+  unfolding listed
+  runs-differ p = rw (ne-eqb m n p)
+
+  pub runs-are : m ≡ n → {r : Bool} → r ≡ every (λ j. same (a + j) (b + j)) m → r ≡ listed same a m b n
+  unfolding listed
+  runs-are e h = rw (eq-eqb m n e) h
+
+module _ (f classes : List ℕ) (listing : Listing) (m n : ℕ) {r : Bool} where
+  pub by-members : listing ≡ Members → r ≡ eqb (word f members m 0) (word f members n 0) → r ≡ sameListed f classes listing m n
+  unfolding sameListed sameMember
+  by-members e h = rw e h
+
+  pub by-fields : listing ≡ Fields → r ≡ sameField f (sameIn classes) m n → r ≡ sameListed f classes listing m n
+  unfolding sameListed
+  by-fields e h = rw e h
+
+  pub by-dimensions : listing ≡ Dimensions → r ≡ sameDimension f m n → r ≡ sameListed f classes listing m n
+  unfolding sameListed
+  by-dimensions e h = rw e h
+
+-- ---- shapes of one kind
+module _ (f classes : List ℕ) (enumerated : Bool) (m n : ℕ) where
+  pub kinds-differ : {kind other : ℕ} → kind ≡ word f shapes m 0 → other ≡ word f shapes n 0 → (kind ≡ other → ⊥) → false ≡ shapesLike f (sameIn classes) enumerated m n
+  unfolding shapesLike
+  kinds-differ e h p = rw (← e, ← h, ne-eqb _ _ p)
+
+  pub kinds-are : {kind other : ℕ} → kind ≡ word f shapes m 0 → other ≡ word f shapes n 0 → kind ≡ other → {r : Bool} → r ≡ likeAt f classes enumerated kind m n
+      → r ≡ shapesLike f (sameIn classes) enumerated m n
+  unfolding shapesLike likeAt shapeAt
+  kinds-are e h p q = rw (← e, ← h, eq-eqb _ _ p) q
+
+  pub members-free : enumerated ≡ false → true ≡ membersLike f classes enumerated m n
+  unfolding membersLike
+  members-free e = rw e
+
+  module _ {s : Bool} (q : s ≡ eqb (word f shapes m 3) (word f shapes n 3)) where
+    pub members-stop : enumerated ≡ true → s ≡ false → false ≡ membersLike f classes enumerated m n
+    unfolding membersLike
+    members-stop e h = rw (e, ← q, h, and-false)
+
+    pub members-go : enumerated ≡ true → s ≡ true → {r : Bool}
+        → r ≡ listed (sameListed f classes Members) (word f shapes m 1) (word f shapes m 2) (word f shapes n 1) (word f shapes n 2)
+        → r ≡ membersLike f classes enumerated m n
+    unfolding membersLike
+    members-go e h l = rw (e, ← q, h, and-true) l
+
+  module _ {s : Bool} (q : s ≡ sameIn classes (word f shapes m 1) (word f shapes n 1)) where
+    pub array-stop : s ≡ false → false ≡ arrayLike f classes m n
+    unfolding arrayLike
+    array-stop h = rw (← q, h)
+
+    pub array-go : s ≡ true → {r : Bool}
+        → r ≡ listed (sameListed f classes Dimensions) (word f shapes m 2) (word f shapes m 3) (word f shapes n 2) (word f shapes n 3) → r ≡ arrayLike f classes m n
+    unfolding arrayLike
+    array-go h l = rw (← q, h) l
+
+-- ---- the lowest that meets a test
+-- none below n does
+pub record None (p : ℕ → Bool) (n : ℕ) : Type 0 where
+  pub far : lowest p n ≡ n
+
+pub none-below : (p : ℕ → Bool) → None p 0
+unfolding lowest
+none-below p = record { far = refl }
+
+module _ {p : ℕ → Bool} {n : ℕ} (i : None p n) {r : Bool} (e : r ≡ p n) where
+  pub not-here : r ≡ false → None p (n + 1)
+  unfolding lowest
+  not-here h = record { far = rw (add-one, i .far, le-ltb n n (omega arith), ← e, h) }
+
+  pub found-here : r ≡ true → (m : ℕ) → n < m → n ≡ lowest p m
+  unfolding lowest
+  found-here h zero l = absurd (omega arith)
+  found-here h (suc m) l = go (ℕ-discrete n m) (found-here h m)
+    where
+      go : Dec (n ≡ m) → (n < m → n ≡ lowest p m) → n ≡ pick (ltb (lowest p m) m) (lowest p m) (pick (p m) m (suc m))
+      go (yes q) ih = rw (← q, i .far, le-ltb n n (omega arith), ← e, h)
+      go (no q) ih = let z : n < m = omega (arith, q) in rw (← ih z, lt-ltb n m z)
+
+pub none-at-all : {p : ℕ → Bool} {n : ℕ} → None p n → (m : ℕ) → n ≤ m → m ≤ n → m ≡ lowest p m
+none-at-all {n = n} i m h l = let e : m ≡ n = omega arith in rw e (sym (i .far))
+
+lowest-most : (p : ℕ → Bool) (n : ℕ) → lowest p n ≤ n
+unfolding lowest
+lowest-most p zero = omega arith
+lowest-most p (suc n) = go (ltb (lowest p n) n) (p n) (lowest-most p n)
+  where
+    go : (b d : Bool) → lowest p n ≤ n → pick b (lowest p n) (pick d n (suc n)) ≤ suc n
+    go true d h = omega arith
+    go false true h = omega arith
+    go false false h = omega arith
+
+none-is : (p : ℕ → Bool) (n : ℕ) → eqb (lowest p n) n ≡ every (λ m. not (p m)) n
+unfolding lowest every
+none-is p zero = refl
+none-is p (suc n) = go (ltb (lowest p n) n) (p n) refl refl (lowest-most p n) (none-is p n)
+  where
+    go : (b d : Bool) → ltb (lowest p n) n ≡ b → p n ≡ d → lowest p n ≤ n → eqb (lowest p n) n ≡ every (λ m. not (p m)) n
+        → eqb (pick b (lowest p n) (pick d n (suc n))) (suc n) ≡ every (λ m. not (p m)) n && not d
+    go true d q w h ih =
+        let l = ltb-true (lowest p n) n q in
+        rw (← ih, ne-eqb (lowest p n) n (λ e. omega arith), ne-eqb (lowest p n) (suc n) (λ e. omega arith))
+    go false true q w h ih = rw (ne-eqb n (suc n) (λ e. omega arith), and-false)
+    go false false q w h ih =
+        let l = ltb-false (lowest p n) n q in
+        let e : lowest p n ≡ n = omega arith in
+        rw (← ih, eq-eqb (lowest p n) n e, eq-eqb (suc n) (suc n) refl)
+
+pub differs : (f : List ℕ) (n : ℕ) {r : ℕ} → r ≡ firstLike f [] true n → eqb r n ≡ every (λ m. not (alike f m n)) n
+unfolding firstLike alike
+differs f n e = rw e (none-is (λ m. alike f m n) n)
+
+pub ruleset comparing =
+    (scans, link-none, link-one, link-both, runs-differ, runs-are, by-members, by-fields, by-dimensions, kinds-differ, kinds-are, members-free, members-stop, members-go, array-stop, array-go)
+
+pub ruleset lowests = (needs, none-below, not-here, found-here, none-at-all)

@@ -1,0 +1,9 @@
+-- `inside::enumerated_entry` meets its contract. Assumes nothing.
+use Rattle.definition.specs.Accept.{enumeratedEntry}
+use borrow.Author.Needs.{needs}
+use Rattle.records.proofs.inside.enumerated_entry.Statement.{statement}
+use Rattle.records.proofs.inside.enumerated_entry.Tie as tie
+
+pub enumerated-entry-spec : {M : Type 1} → statement M
+unfolding enumeratedEntry
+enumerated-entry-spec = tie.close (tie.spec (λ c κs. search needs) (λ c κs. search needs) (λ c κs. search needs) (λ c. cc))

@@ -1,0 +1,11 @@
+-- `like::enumeration_like` meets its contract. Assumes nothing.
+use Rattle.definition.specs.Records.{shapeOf}
+use Rattle.definition.specs.Accept.{likeBy}
+use Rattle.records.specs.Alike.{likeAt, membersLike, sameListed}
+use borrow.Author.Needs.{needs}
+use Rattle.records.proofs.like.enumeration_like.Statement.{statement}
+use Rattle.records.proofs.like.enumeration_like.Tie as tie
+
+pub enumeration-like-spec : {M : Type 1} → statement M
+unfolding likeAt membersLike shapeOf likeBy sameListed
+enumeration-like-spec = tie.close (tie.spec (λ c κs. search needs) (λ c κs. search needs) (λ c κs. search needs) (λ c κs. search needs) (λ c. cc))

@@ -1,0 +1,29 @@
+-- `like::first_like` meets its contract. Assumes nothing.
+use Prim.Native.Nat.{_-_, _≤_}
+use Rattle.definition.specs.Accept.{shapesLike}
+use Rattle.records.specs.Starts.{StartsOf}
+use Rattle.records.specs.Alike.{sameIn, firstLike}
+use Rattle.records.proofs.Comparing.{None, lowests}
+use Rattle.records.proofs.like.first_like.Statement.{statement}
+use Rattle.records.proofs.like.first_like.Tie as tie
+
+abbrev Inv-loop : tie.InvT-loop
+Inv-loop file sections classes enumerated n m₀ m = (m ≤ n) × StartsOf file (sections .starts) × None (λ m. shapesLike file (sameIn classes) enumerated m n) m
+
+abbrev μ-loop : tie.MeasureT-loop
+μ-loop file sections classes enumerated n m₀ m = n - m
+
+pub first-like-spec : {M : Type 1} → statement M
+unfolding firstLike
+first-like-spec =
+    tie.close
+    (tie.spec
+    Inv-loop
+    μ-loop
+    (λ c. search lowests)
+    (λ c κs. search lowests)
+    (λ c. search lowests)
+    (λ c. search lowests)
+    (λ c. search lowests)
+    (λ c. search lowests)
+    (λ c. search lowests))

@@ -1,0 +1,17 @@
+-- `like::same_bound` meets its contract. Assumes nothing.
+use Rattle.definition.specs.Accept.{sameInteger}
+use borrow.Author.Needs.{needs}
+use Rattle.records.proofs.like.same_bound.Statement.{statement}
+use Rattle.records.proofs.like.same_bound.Tie as tie
+
+pub same-bound-spec : {M : Type 1} → statement M
+unfolding sameInteger
+same-bound-spec =
+    tie.close
+    (tie.spec
+    (λ c κs. search needs)
+    (λ c κs. search needs)
+    (λ c κs. search needs)
+    (λ c κs. search needs)
+    (λ c κs. search needs)
+    (λ c. cc))

@@ -1,0 +1,25 @@
+-- `plain::entry_plain` meets its contract. Assumes nothing.
+use Rattle.definition.specs.Accept.{entryPlain}
+use mathlib.Core.Path.{refl}
+use Rattle.records.proofs.Listed.{in-run, past}
+use borrow.Author.Needs.{needs}
+use native.Mathlib.Omega.{arith}
+use Rattle.records.proofs.plain.entry_plain.Statement.{statement}
+use Rattle.records.proofs.plain.entry_plain.Tie as tie
+
+pub entry-plain-spec : {M : Type 1} → statement M
+unfolding entryPlain
+entry-plain-spec =
+    tie.close
+    (tie.spec
+    (λ c κs. search needs)
+    (λ c κs. search needs)
+    (λ c κs. search needs)
+    (λ c κs. search needs)
+    (λ c. rw (c .before .match .keys1) (cc))
+    (λ c. rw (c .before .match .keys2) (cc))
+    (λ c. rw (c .before .match .keys3) (cc))
+    (λ c. rw (c .before .match .keys4) (cc))
+    (λ c. rw (c .match .keys5) (cc))
+    (λ c. let a = c .before .before .args in in-run (λ k. entryPlain k (a .a) (a .b)) 2 2 (a .kind) (omega arith) (omega arith) (refl, (refl, tt)) (cc))
+    (λ c. let a = c .before .before .args in past (λ k. entryPlain k (a .a) (a .b)) 7 (a .kind) (omega arith) (λ j. refl)))

@@ -1,0 +1,30 @@
+-- `plain::initializer_plain` meets its contract. Assumes nothing.
+use Rattle.definition.specs.Accept.{initializerPlain}
+use mathlib.Core.Path.{refl}
+use Rattle.records.proofs.Listed.{in-run, past}
+use borrow.Author.Needs.{needs}
+use native.Mathlib.Omega.{arith}
+use Rattle.records.proofs.plain.initializer_plain.Statement.{statement}
+use Rattle.records.proofs.plain.initializer_plain.Tie as tie
+
+pub initializer-plain-spec : {M : Type 1} → statement M
+unfolding initializerPlain
+initializer-plain-spec =
+    tie.close
+    (tie.spec
+    (λ c κs. search needs)
+    (λ c κs. search needs)
+    (λ c κs. search needs)
+    (λ c κs. search needs)
+    (λ c κs. search needs)
+    (λ c κs. search needs)
+    (λ c. rw (c .before .match .keys1) (cc))
+    (λ c. rw (c .before .before .match .keys2) (cc))
+    (λ c. rw (c .match .keys3) (cc))
+    (λ c. rw (c .match .keys4) (cc))
+    (λ c. let a = c .before .before .before .before .before .args in in-run (λ k. initializerPlain k (a .named) (a .element) (a .value) (a .first) (a .many) (a .length) (a .width)) 0 2 (a .kind) (omega arith) (omega arith) (refl, (refl, tt)) (cc))
+    (λ c. let a = c .before .before .before .before .before .before .args in in-run (λ k. initializerPlain k (a .named) (a .element) (a .value) (a .first) (a .many) (a .length) (a .width)) 2 2 (a .kind) (omega arith) (omega arith) (refl, (refl, tt)) (cc))
+    (λ c. let a = c .before .before .before .before .before .before .before .args in in-run (λ k. initializerPlain k (a .named) (a .element) (a .value) (a .first) (a .many) (a .length) (a .width)) 5 2 (a .kind) (omega arith) (omega arith) (refl, (refl, tt)) (cc))
+    (λ c. let a = c .before .before .before .before .before .before .before .before .args in in-run (λ k. initializerPlain k (a .named) (a .element) (a .value) (a .first) (a .many) (a .length) (a .width)) 7 2 (a .kind) (omega arith) (omega arith) (refl, (refl, tt)) (cc))
+    (λ c. let a = c .before .before .before .before .before .before .before .before .before .args in in-run (λ k. initializerPlain k (a .named) (a .element) (a .value) (a .first) (a .many) (a .length) (a .width)) 12 3 (a .kind) (omega arith) (omega arith) (refl, (refl, (refl, tt))) (cc))
+    (λ c. let a = c .before .before .before .before .before .before .before .before .before .args in past (λ k. initializerPlain k (a .named) (a .element) (a .value) (a .first) (a .many) (a .length) (a .width)) 15 (a .kind) (omega arith) (λ j. refl)))

@@ -1,0 +1,34 @@
+-- `plain::type_plain` meets its contract. Assumes nothing.
+use Rattle.definition.specs.Accept.{typePlain}
+use mathlib.Core.Path.{refl}
+use Rattle.records.proofs.Listed.{behind}
+use borrow.Author.Needs.{needs}
+use Rattle.records.proofs.plain.type_plain.Statement.{statement}
+use Rattle.records.proofs.plain.type_plain.Tie as tie
+
+pub type-plain-spec : {M : Type 1} → statement M
+unfolding typePlain
+type-plain-spec =
+    tie.close
+    (tie.spec
+    (λ c κs. search needs)
+    (λ c κs. search needs)
+    (λ c κs. search needs)
+    (λ c κs. search needs)
+    (λ c κs. search needs)
+    (λ c κs. search needs)
+    (λ c κs. search needs)
+    (λ c κs. search needs)
+    (λ c κs. search needs)
+    (λ c κs. search needs)
+    (λ c. rw (c .before .match .keys1) (cc))
+    (λ c. rw (c .before .match .keys2) (cc))
+    (λ c. rw (c .before .match .keys3) (cc))
+    (λ c. rw (c .before .match .keys4) (cc))
+    (λ c. rw (c .before .match .keys5) (cc))
+    (λ c. rw (c .before .match .keys6) (cc))
+    (λ c. rw (c .before .match .keys7) (cc))
+    (λ c. rw (c .before .match .keys8) (cc))
+    (λ c. rw (c .before .match .keys9) (cc))
+    (λ c. rw (c .before .match .keys10) (cc))
+    (λ c. let a = c .before .args in behind (λ k. typePlain k (a .named) (a .start) (a .first) (a .many)) 10 (a .kind) (c .match .rest) (λ j. refl)))

@@ -1,0 +1,11 @@
+-- `plain::unused1` meets its contract. Assumes nothing.
+use mathlib.Core.Path.{sym}
+use lib.Dec.{eqb}
+use Rattle.definition.specs.Base.{unused}
+use Rattle.records.proofs.Listed.{and-true}
+use Rattle.records.proofs.plain.unused1.Statement.{statement}
+use Rattle.records.proofs.plain.unused1.Tie as tie
+
+pub unused1-spec : {M : Type 1} → statement M
+unfolding unused
+unused1-spec = tie.close (tie.spec (λ c. sym (and-true (eqb (c .args .a) 0))))

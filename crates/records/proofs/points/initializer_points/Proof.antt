@@ -1,0 +1,19 @@
+-- `points::initializer_points` meets its contract. Assumes nothing.
+use Rattle.definition.specs.Accept.{initializerPoints}
+use Rattle.records.specs.Rules.{initializerValue}
+use borrow.Author.Needs.{needs}
+use Rattle.records.proofs.points.initializer_points.Statement.{statement}
+use Rattle.records.proofs.points.initializer_points.Tie as tie
+
+pub initializer-points-spec : {M : Type 1} → statement M
+unfolding initializerValue initializerPoints
+initializer-points-spec =
+    tie.close
+    (tie.spec
+    (λ c κs. search needs)
+    (λ c κs. search needs)
+    (λ c κs. search needs)
+    (λ c κs. search needs)
+    (λ c κs. search needs)
+    (λ c κs. search needs)
+    (λ c. cc))

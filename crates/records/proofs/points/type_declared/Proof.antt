@@ -1,0 +1,18 @@
+-- `points::type_declared` meets its contract. Assumes nothing.
+use Rattle.records.specs.Rules.{typeDeclared}
+use borrow.Author.Needs.{needs}
+use Rattle.records.proofs.points.type_declared.Statement.{statement}
+use Rattle.records.proofs.points.type_declared.Tie as tie
+
+pub type-declared-spec : {M : Type 1} → statement M
+unfolding typeDeclared
+type-declared-spec =
+    tie.close
+    (tie.spec
+    (λ c κs. search needs)
+    (λ c κs. search needs)
+    (λ c κs. search needs)
+    (λ c κs. search needs)
+    (λ c κs. search needs)
+    (λ c κs. search needs)
+    (λ c. cc))

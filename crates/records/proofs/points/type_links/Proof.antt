@@ -1,0 +1,20 @@
+-- `points::type_links` meets its contract. Assumes nothing.
+use Rattle.records.specs.Rules.{typeLinks}
+use borrow.Author.Needs.{needs}
+use Rattle.records.proofs.points.type_links.Statement.{statement}
+use Rattle.records.proofs.points.type_links.Tie as tie
+
+pub type-links-spec : {M : Type 1} → statement M
+unfolding typeLinks
+type-links-spec =
+    tie.close
+    (tie.spec
+    (λ c κs. search needs)
+    (λ c κs. search needs)
+    (λ c κs. search needs)
+    (λ c κs. search needs)
+    (λ c κs. search needs)
+    (λ c κs. search needs)
+    (λ c κs. search needs)
+    (λ c κs. search needs)
+    (λ c. cc))

@@ -1,0 +1,18 @@
+-- `points::type_points` meets its contract. Assumes nothing.
+use Rattle.definition.specs.Accept.{typePoints}
+use Rattle.records.specs.Rules.{typeLinks, typeDeclared}
+use borrow.Author.Needs.{needs}
+use Rattle.records.proofs.points.type_points.Statement.{statement}
+use Rattle.records.proofs.points.type_points.Tie as tie
+
+pub type-points-spec : {M : Type 1} → statement M
+unfolding typeLinks typeDeclared typePoints
+type-points-spec =
+    tie.close
+    (tie.spec
+    (λ c κs. search needs)
+    (λ c κs. search needs)
+    (λ c κs. search needs)
+    (λ c κs. search needs)
+    (λ c κs. search needs)
+    (λ c. cc))

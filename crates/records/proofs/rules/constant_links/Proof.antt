@@ -1,0 +1,10 @@
+-- `rules::constant_links` meets its contract. Assumes nothing.
+use Rattle.definition.specs.Accept.{pointRules}
+use Rattle.records.specs.Rules.{pointRule}
+use borrow.Author.Needs.{needs}
+use Rattle.records.proofs.rules.constant_links.Statement.{statement}
+use Rattle.records.proofs.rules.constant_links.Tie as tie
+
+pub constant-links-spec : {M : Type 1} → statement M
+unfolding pointRule pointRules
+constant-links-spec = tie.close (tie.spec (λ c κs. search needs) (λ c κs. search needs) (λ c κs. search needs) (λ c κs. search needs) (λ c. cc))

@@ -1,0 +1,19 @@
+-- `rules::shape_words` meets its contract. Assumes nothing.
+use Rattle.definition.specs.Accept.{plainRules}
+use Rattle.records.specs.Rules.{plainRule}
+use borrow.Author.Needs.{needs}
+use Rattle.records.proofs.rules.shape_words.Statement.{statement}
+use Rattle.records.proofs.rules.shape_words.Tie as tie
+
+pub shape-words-spec : {M : Type 1} → statement M
+unfolding plainRule plainRules
+shape-words-spec =
+    tie.close
+    (tie.spec
+    (λ c κs. search needs)
+    (λ c κs. search needs)
+    (λ c κs. search needs)
+    (λ c κs. search needs)
+    (λ c κs. search needs)
+    (λ c κs. search needs)
+    (λ c. cc))

@@ -1,0 +1,19 @@
+-- `rules::type_words` meets its contract. Assumes nothing.
+use Rattle.definition.specs.Accept.{plainRules}
+use Rattle.records.specs.Rules.{plainRule}
+use borrow.Author.Needs.{needs}
+use Rattle.records.proofs.rules.type_words.Statement.{statement}
+use Rattle.records.proofs.rules.type_words.Tie as tie
+
+pub type-words-spec : {M : Type 1} → statement M
+unfolding plainRule plainRules
+type-words-spec =
+    tie.close
+    (tie.spec
+    (λ c κs. search needs)
+    (λ c κs. search needs)
+    (λ c κs. search needs)
+    (λ c κs. search needs)
+    (λ c κs. search needs)
+    (λ c κs. search needs)
+    (λ c. cc))

@@ -1,0 +1,10 @@
+-- `runs::array_entry` meets its contract. Assumes nothing.
+use Rattle.definition.specs.Accept.{arrayEntry}
+use Rattle.records.specs.Rules.{arrayKind}
+use borrow.Author.Needs.{needs}
+use Rattle.records.proofs.runs.array_entry.Statement.{statement}
+use Rattle.records.proofs.runs.array_entry.Tie as tie
+
+pub array-entry-spec : {M : Type 1} → statement M
+unfolding arrayKind arrayEntry
+array-entry-spec = tie.close (tie.spec (λ c κs. search needs) (λ c κs. search needs) (λ c κs. search needs) (λ c. cc))

@@ -1,0 +1,18 @@
+-- `view::shape_at` meets its contract. Assumes nothing.
+use Rattle.definition.specs.Records.{shapeAt}
+use borrow.Author.Needs.{needs}
+use Rattle.records.proofs.view.shape_at.Statement.{statement}
+use Rattle.records.proofs.view.shape_at.Tie as tie
+
+pub shape-at-spec : {M : Type 1} → statement M
+unfolding shapeAt
+shape-at-spec =
+    tie.close
+    (tie.spec
+    (λ c κs. search needs)
+    (λ c κs. search needs)
+    (λ c κs. search needs)
+    (λ c κs. search needs)
+    (λ c κs. search needs)
+    (λ c κs. search needs)
+    (λ c. rw (← c .before .before .before .before .before .word .ensures, ← c .before .before .before .before .word2 .ensures, ← c .before .before .before .word3 .ensures, ← c .before .before .word4 .ensures, ← c .before .word5 .ensures) (c .shape-of .ensures)))

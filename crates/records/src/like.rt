@@ -1,0 +1,173 @@
+// Whether two shapes are like each other, and the lowest shape that is like one: refusal 5, and shape classes.
+ghost use mathlib.Core.Path.{_≡_};
+ghost use mathlib.Core.Bool.{not, _&&_};
+ghost use mathlib.Core.List.{[]};
+ghost use Prim.Native.Nat.{_+_, _<_};
+ghost use lib.Dec.{eqb};
+ghost use Rattle.definition.specs.Base.{every};
+ghost use Rattle.definition.specs.Layout as Layout;
+ghost use Rattle.definition.specs.Layout.{shapes};
+ghost use Rattle.definition.specs.Accept.{listed, sameLink, sameInteger, shapesLike, alike, shapesDiffer};
+ghost use Rattle.records.specs.Starts.{StartsOf};
+ghost use Rattle.records.specs.Alike.{sameIn, sameListed, likeAt, membersLike, arrayLike, firstLike};
+use crate::alike::Listing;
+use crate::alike::same_in;
+use crate::alike::same_link;
+use crate::alike::same_run;
+use crate::words::Sections;
+use crate::words::count;
+use crate::words::word;
+use definition::layout::CONSTANTS;
+use definition::layout::SHAPES;
+
+// Word `place` is the same in two records of a section.
+fn same_word(file: &[u32], sections: Sections, section: usize, m: u32, n: u32, place: usize) -> bool
+    requires { ⌜ StartsOf (now file) (sections .starts) × (section < 14) × (place < 16) ⌝ }
+    ensures { λ r. ⌜ r ≡ eqb (Layout.word (now (file .entry)) section m place) (Layout.word (now (file .entry)) section n place) ⌝ }
+{
+    word(file, sections, section, m, place) == word(file, sections, section, n, place)
+}
+
+// Word `place` of two shapes stands for the same shape.
+fn same_inside(file: &[u32], sections: Sections, classes: &[u32], m: u32, n: u32, place: usize) -> bool
+    requires { ⌜ StartsOf (now file) (sections .starts) × (place < 16) ⌝ }
+    ensures { λ r. ⌜ r ≡ sameIn (now (classes .entry)) (Layout.word (now (file .entry)) shapes m place) (Layout.word (now (file .entry)) shapes n place) ⌝ }
+{
+    same_in(classes, word(file, sections, SHAPES, m, place), word(file, sections, SHAPES, n, place))
+}
+
+// The runs at word `place` of two shapes list the same.
+fn same_runs(
+    file: &[u32],
+    sections: Sections,
+    classes: &[u32],
+    listing: Listing,
+    m: u32,
+    n: u32,
+    place: usize,
+) -> bool
+    requires { ⌜ StartsOf (now file) (sections .starts) × (place < 15) ⌝ }
+    ensures { λ r. ⌜ r ≡ listed (sameListed (now (file .entry)) (now (classes .entry)) listing)
+        (Layout.word (now (file .entry)) shapes m place) (Layout.word (now (file .entry)) shapes m (place + 1))
+        (Layout.word (now (file .entry)) shapes n place) (Layout.word (now (file .entry)) shapes n (place + 1)) ⌝ }
+{
+    let a = word(file, sections, SHAPES, m, place);
+    let many = word(file, sections, SHAPES, m, place + 1);
+    let b = word(file, sections, SHAPES, n, place);
+    let others = word(file, sections, SHAPES, n, place + 1);
+    same_run(file, sections, classes, listing, a, many, b, others)
+}
+
+// Two integer constants have one value: those at word `place` of two subranges.
+fn same_bound(file: &[u32], sections: Sections, m: u32, n: u32, place: usize) -> bool
+    requires { ⌜ StartsOf (now file) (sections .starts) × (place < 16) ⌝ }
+    ensures { λ r. ⌜ r ≡ sameInteger (now (file .entry)) (Layout.word (now (file .entry)) shapes m place) (Layout.word (now (file .entry)) shapes n place) ⌝ }
+{
+    let c = word(file, sections, SHAPES, m, place);
+    let d = word(file, sections, SHAPES, n, place);
+    same_word(file, sections, CONSTANTS, c, d, 1)
+        & same_word(file, sections, CONSTANTS, c, d, 2)
+        & same_word(file, sections, CONSTANTS, c, d, 3)
+}
+
+// Members and default, where they count.
+fn members_like(file: &[u32], sections: Sections, classes: &[u32], enumerated: bool, m: u32, n: u32) -> bool
+    requires { ⌜ StartsOf (now file) (sections .starts) ⌝ }
+    ensures { λ r. ⌜ r ≡ membersLike (now (file .entry)) (now (classes .entry)) enumerated m n ⌝ }
+{
+    if !enumerated {
+        return true;
+    }
+    if !same_word(file, sections, SHAPES, m, n, 3) {
+        return false;
+    }
+    same_runs(file, sections, classes, Listing::Members, m, n, 1)
+}
+
+fn enumeration_like(file: &[u32], sections: Sections, classes: &[u32], enumerated: bool, m: u32, n: u32) -> bool
+    requires { ⌜ StartsOf (now file) (sections .starts) ⌝ }
+    ensures { λ r. ⌜ r ≡ likeAt (now (file .entry)) (now (classes .entry)) enumerated 10 m n ⌝ }
+{
+    let underlying = word(file, sections, SHAPES, m, 4);
+    let other = word(file, sections, SHAPES, n, 4);
+    members_like(file, sections, classes, enumerated, m, n) & same_link(classes, underlying, other)
+}
+
+fn array_like(file: &[u32], sections: Sections, classes: &[u32], m: u32, n: u32) -> bool
+    requires { ⌜ StartsOf (now file) (sections .starts) ⌝ }
+    ensures { λ r. ⌜ r ≡ arrayLike (now (file .entry)) (now (classes .entry)) m n ⌝ }
+{
+    if !same_inside(file, sections, classes, m, n, 1) {
+        return false;
+    }
+    same_runs(file, sections, classes, Listing::Dimensions, m, n, 2)
+}
+
+// Shapes m and n, where both have one kind.
+fn like(file: &[u32], sections: Sections, classes: &[u32], enumerated: bool, kind: u32, m: u32, n: u32) -> bool
+    requires { ⌜ StartsOf (now file) (sections .starts) ⌝ }
+    ensures { λ r. ⌜ r ≡ likeAt (now (file .entry)) (now (classes .entry)) enumerated kind m n ⌝ }
+{
+    match kind {
+        0 => true,
+        1..=8 => same_word(file, sections, SHAPES, m, n, 1),
+        9 => same_word(file, sections, SHAPES, m, n, 1) & same_word(file, sections, SHAPES, m, n, 2),
+        10 => enumeration_like(file, sections, classes, enumerated, m, n),
+        11 => same_runs(file, sections, classes, Listing::Fields, m, n, 1),
+        12 => array_like(file, sections, classes, m, n),
+        13 => {
+            same_inside(file, sections, classes, m, n, 1)
+                & same_bound(file, sections, m, n, 2)
+                & same_bound(file, sections, m, n, 3)
+        }
+        14..=15 => same_word(file, sections, SHAPES, m, n, 1),
+        16 => same_inside(file, sections, classes, m, n, 1),
+        _ => false,
+    }
+}
+
+fn shapes_like(file: &[u32], sections: Sections, classes: &[u32], enumerated: bool, m: u32, n: u32) -> bool
+    requires { ⌜ StartsOf (now file) (sections .starts) ⌝ }
+    ensures { λ r. ⌜ r ≡ shapesLike (now (file .entry)) (sameIn (now (classes .entry))) enumerated m n ⌝ }
+{
+    let kind = word(file, sections, SHAPES, m, 0);
+    let other = word(file, sections, SHAPES, n, 0);
+    if kind != other {
+        return false;
+    }
+    like(file, sections, classes, enumerated, kind, m, n)
+}
+
+// The lowest shape below n that is like it, or n.
+pub fn first_like(file: &[u32], sections: Sections, classes: &[u32], enumerated: bool, n: u32) -> u32
+    requires { ⌜ StartsOf (now file) (sections .starts) ⌝ }
+    ensures { λ r. ⌜ r ≡ firstLike (now (file .entry)) (now (classes .entry)) enumerated n ⌝ }
+{
+    for m in 0..n {
+        if shapes_like(file, sections, classes, enumerated, m, n) {
+            return m;
+        }
+    }
+    n
+}
+
+fn shape_differs(file: &[u32], sections: Sections, n: u32) -> bool
+    requires { ⌜ StartsOf (now file) (sections .starts) ⌝ }
+    ensures { λ r. ⌜ r ≡ every (λ m. not (alike (now (file .entry)) m n)) n ⌝ }
+{
+    first_like(file, sections, &file[..0], true, n) == n
+}
+
+// Refusal 5: two shapes are alike.
+pub fn shapes_differ(file: &[u32], sections: Sections) -> bool
+    requires { ⌜ StartsOf (now file) (sections .starts) ⌝ }
+    ensures { λ r. ⌜ r ≡ shapesDiffer (now (file .entry)) ⌝ }
+{
+    let many = count(file, sections, SHAPES);
+    for n in 0..many {
+        if !shape_differs(file, sections, n) {
+            return false;
+        }
+    }
+    true
+}
