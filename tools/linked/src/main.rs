@@ -1,0 +1,129 @@
+//! `linked SEED COUNT`: runs COUNT generated files, a damaged copy of each and
+//! as many files of random words through the proved static library and
+//! through `files::verdict`, and prints how many had each verdict. Then the
+//! time of both on the largest file, every section at its limit. Fails on any
+//! difference.
+
+use std::env;
+use std::process::exit;
+use std::time::Instant;
+
+use files::verdict::verdict;
+use generate::damage::damage;
+use generate::{file, Size};
+
+extern "C" {
+    /// A slice passes as a pointer and a length (crates/start_values).
+    fn wirkesu_accept(file: *const u32, length: usize) -> u32;
+}
+
+fn accepted(words: &[u32]) -> u32 {
+    // The library reads the slice's words and keeps nothing.
+    unsafe { wirkesu_accept(words.as_ptr(), words.len()) }
+}
+
+/// A few words, most of them small, so that some are counts that fit.
+fn random_words(seed: u64, number: u64) -> Vec<u32> {
+    let mut state = seed
+        .wrapping_mul(0x9e37_79b9_7f4a_7c15)
+        .wrapping_add(number);
+    let mut next = || {
+        state ^= state << 13;
+        state ^= state >> 7;
+        state ^= state << 17;
+        state
+    };
+    for _ in 0..4 {
+        next();
+    }
+    let length = next() % 64;
+    (0..length)
+        .map(|_| {
+            let word = next();
+            let mask = [1, 3, 15, 255, u32::MAX][(word >> 32) as usize % 5];
+            word as u32 & mask
+        })
+        .collect()
+}
+
+/// Counts the verdict, or ends the run where the two differ.
+fn compare(counts: &mut [u64; 7], what: &str, number: u64, words: &[u32]) {
+    let (ours, theirs) = (accepted(words), verdict(words));
+    if ours != theirs {
+        eprintln!("{what} {number}: the library answers {ours}, document 01's reading {theirs}");
+        exit(1);
+    }
+    counts[theirs as usize] += 1;
+}
+
+fn report(what: &str, counts: &[u64; 7]) {
+    let all: u64 = counts.iter().sum();
+    println!("{what}: {all} files; verdicts 0 to 6: {counts:?}");
+}
+
+/// Every section at its limit, with records that are allowed: 1,024 shapes
+/// that differ, and elsewhere records of zeros and names.
+fn largest() -> Vec<u32> {
+    use files::layout::{MOST, SECTIONS, WORDS};
+    let mut words = Vec::new();
+    for section in 0..SECTIONS {
+        words.push(MOST[section] as u32);
+        for number in 0..MOST[section] {
+            let mut record = vec![0u32; WORDS[section]];
+            match section {
+                files::layout::SHAPES => record[..2].copy_from_slice(&[14, number as u32 + 1]),
+                files::layout::MEMBERS
+                | files::layout::SHAPE_FIELDS
+                | files::layout::BLOCK_FIELDS
+                | files::layout::ELEMENTS => record[0] = 1,
+                files::layout::TYPES => record[9] = u32::MAX,
+                files::layout::SETTINGS => record[0] = 254,
+                _ => {}
+            }
+            words.extend(record);
+        }
+    }
+    words
+}
+
+fn timed(run: impl Fn(&[u32]) -> u32, words: &[u32]) -> (u32, f64) {
+    let started = Instant::now();
+    let mut answer = 0;
+    for _ in 0..20 {
+        answer = run(words);
+    }
+    (answer, started.elapsed().as_secs_f64() / 20.0)
+}
+
+fn main() {
+    let arguments: Vec<u64> = env::args().skip(1).filter_map(|a| a.parse().ok()).collect();
+    let [seed, count] = arguments[..] else {
+        eprintln!("usage: linked SEED COUNT");
+        exit(2);
+    };
+    let (mut good, mut damaged, mut random) = ([0; 7], [0; 7], [0; 7]);
+    for number in 0..count {
+        let words = file(seed, number, Size::Small);
+        compare(&mut good, "generated", number, &words);
+        compare(
+            &mut damaged,
+            "damaged",
+            number,
+            &damage(seed, number, &words),
+        );
+        compare(&mut random, "random", number, &random_words(seed, number));
+    }
+    report("generated", &good);
+    report("damaged", &damaged);
+    report("random", &random);
+
+    let words = largest();
+    let (ours, our_time) = timed(accepted, &words);
+    let (theirs, their_time) = timed(verdict, &words);
+    println!(
+        "largest file, {} words: library {ours} in {:.3} ms, plain Rust {theirs} in {:.3} ms",
+        words.len(),
+        our_time * 1e3,
+        their_time * 1e3
+    );
+}
