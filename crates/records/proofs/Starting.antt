@@ -42,7 +42,7 @@ module _ (f : List ℕ) where
       record {
         long = refl;
         start = λ s l. let e : s ≡ 0 = omega arith in rw e;
-        near = λ s l. let e : s ≡ 0 = omega arith in rw e (omega arith)
+        near = λ s l. let e : s ≡ 0 = omega arith in rw e (omega arith);
       }
 
   pub next-start : {starts : List ℕ} {s end : ℕ} → StartsTo f starts s → s < 14 → end ≡ behind f s (getD starts s 0) → end ≤ getD starts s 0 + 2 ^ 36
@@ -52,7 +52,7 @@ module _ (f : List ℕ) where
       record {
         long = length-set starts (s + 1) end ∙ i .long;
         start = λ t m. go t m (ℕ-discrete t (s + 1));
-        near = λ t m. far t m (ℕ-discrete t (s + 1))
+        near = λ t m. far t m (ℕ-discrete t (s + 1));
       }
     where
       here : getD (set starts (s + 1) end) (s + 1) 0 ≡ end

@@ -49,7 +49,15 @@ pub fn same_link(classes: &[u32], m: u32, n: u32) -> bool
 }
 
 // Word `place` is the same in records `a + j` and `b + j`.
-fn same_run_word(file: &[u32], sections: Sections, section: usize, a: u32, b: u32, j: u32, place: usize) -> bool
+fn same_run_word(
+    file: &[u32],
+    sections: Sections,
+    section: usize,
+    a: u32,
+    b: u32,
+    j: u32,
+    place: usize,
+) -> bool
     requires { ⌜ StartsOf (now file) (sections .starts) × (section < 14) × (place < 16) ⌝ }
     ensures { λ r. ⌜ r ≡ eqb (Layout.word (now (file .entry)) section (a + j) place) (Layout.word (now (file .entry)) section (b + j) place) ⌝ }
 {
@@ -71,10 +79,19 @@ fn same_dimension(file: &[u32], sections: Sections, a: u32, b: u32, j: u32) -> b
     requires { ⌜ StartsOf (now file) (sections .starts) ⌝ }
     ensures { λ r. ⌜ r ≡ Accept.sameDimension (now (file .entry)) (a + j) (b + j) ⌝ }
 {
-    same_run_word(file, sections, DIMENSIONS, a, b, j, 0) & same_run_word(file, sections, DIMENSIONS, a, b, j, 1)
+    same_run_word(file, sections, DIMENSIONS, a, b, j, 0)
+        & same_run_word(file, sections, DIMENSIONS, a, b, j, 1)
 }
 
-fn same_listed(file: &[u32], sections: Sections, classes: &[u32], listing: Listing, a: u32, b: u32, j: u32) -> bool
+fn same_listed(
+    file: &[u32],
+    sections: Sections,
+    classes: &[u32],
+    listing: Listing,
+    a: u32,
+    b: u32,
+    j: u32,
+) -> bool
     requires { ⌜ StartsOf (now file) (sections .starts) ⌝ }
     ensures { λ r. ⌜ r ≡ sameListed (now (file .entry)) (now (classes .entry)) listing (a + j) (b + j) ⌝ }
 {

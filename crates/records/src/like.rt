@@ -29,11 +29,22 @@ fn same_word(file: &[u32], sections: Sections, section: usize, m: u32, n: u32, p
 }
 
 // Word `place` of two shapes stands for the same shape.
-fn same_inside(file: &[u32], sections: Sections, classes: &[u32], m: u32, n: u32, place: usize) -> bool
+fn same_inside(
+    file: &[u32],
+    sections: Sections,
+    classes: &[u32],
+    m: u32,
+    n: u32,
+    place: usize,
+) -> bool
     requires { ⌜ StartsOf (now file) (sections .starts) × (place < 16) ⌝ }
     ensures { λ r. ⌜ r ≡ sameIn (now (classes .entry)) (Layout.word (now (file .entry)) shapes m place) (Layout.word (now (file .entry)) shapes n place) ⌝ }
 {
-    same_in(classes, word(file, sections, SHAPES, m, place), word(file, sections, SHAPES, n, place))
+    same_in(
+        classes,
+        word(file, sections, SHAPES, m, place),
+        word(file, sections, SHAPES, n, place),
+    )
 }
 
 // The runs at word `place` of two shapes list the same.
@@ -71,7 +82,14 @@ fn same_bound(file: &[u32], sections: Sections, m: u32, n: u32, place: usize) ->
 }
 
 // Members and default, where they count.
-fn members_like(file: &[u32], sections: Sections, classes: &[u32], enumerated: bool, m: u32, n: u32) -> bool
+fn members_like(
+    file: &[u32],
+    sections: Sections,
+    classes: &[u32],
+    enumerated: bool,
+    m: u32,
+    n: u32,
+) -> bool
     requires { ⌜ StartsOf (now file) (sections .starts) ⌝ }
     ensures { λ r. ⌜ r ≡ membersLike (now (file .entry)) (now (classes .entry)) enumerated m n ⌝ }
 {
@@ -84,7 +102,14 @@ fn members_like(file: &[u32], sections: Sections, classes: &[u32], enumerated: b
     same_runs(file, sections, classes, Listing::Members, m, n, 1)
 }
 
-fn enumeration_like(file: &[u32], sections: Sections, classes: &[u32], enumerated: bool, m: u32, n: u32) -> bool
+fn enumeration_like(
+    file: &[u32],
+    sections: Sections,
+    classes: &[u32],
+    enumerated: bool,
+    m: u32,
+    n: u32,
+) -> bool
     requires { ⌜ StartsOf (now file) (sections .starts) ⌝ }
     ensures { λ r. ⌜ r ≡ likeAt (now (file .entry)) (now (classes .entry)) enumerated 10 m n ⌝ }
 {
@@ -104,14 +129,23 @@ fn array_like(file: &[u32], sections: Sections, classes: &[u32], m: u32, n: u32)
 }
 
 // Shapes m and n, where both have one kind.
-fn like(file: &[u32], sections: Sections, classes: &[u32], enumerated: bool, kind: u32, m: u32, n: u32) -> bool
+fn like(
+    file: &[u32],
+    sections: Sections,
+    classes: &[u32],
+    enumerated: bool,
+    kind: u32,
+    m: u32,
+    n: u32,
+) -> bool
     requires { ⌜ StartsOf (now file) (sections .starts) ⌝ }
     ensures { λ r. ⌜ r ≡ likeAt (now (file .entry)) (now (classes .entry)) enumerated kind m n ⌝ }
 {
     match kind {
         0 => true,
         1..=8 => same_word(file, sections, SHAPES, m, n, 1),
-        9 => same_word(file, sections, SHAPES, m, n, 1) & same_word(file, sections, SHAPES, m, n, 2),
+        9 => same_word(file, sections, SHAPES, m, n, 1)
+            & same_word(file, sections, SHAPES, m, n, 2),
         10 => enumeration_like(file, sections, classes, enumerated, m, n),
         11 => same_runs(file, sections, classes, Listing::Fields, m, n, 1),
         12 => array_like(file, sections, classes, m, n),
@@ -126,7 +160,14 @@ fn like(file: &[u32], sections: Sections, classes: &[u32], enumerated: bool, kin
     }
 }
 
-fn shapes_like(file: &[u32], sections: Sections, classes: &[u32], enumerated: bool, m: u32, n: u32) -> bool
+fn shapes_like(
+    file: &[u32],
+    sections: Sections,
+    classes: &[u32],
+    enumerated: bool,
+    m: u32,
+    n: u32,
+) -> bool
     requires { ⌜ StartsOf (now file) (sections .starts) ⌝ }
     ensures { λ r. ⌜ r ≡ shapesLike (now (file .entry)) (sameIn (now (classes .entry))) enumerated m n ⌝ }
 {
@@ -139,7 +180,13 @@ fn shapes_like(file: &[u32], sections: Sections, classes: &[u32], enumerated: bo
 }
 
 // The lowest shape below n that is like it, or n.
-pub fn first_like(file: &[u32], sections: Sections, classes: &[u32], enumerated: bool, n: u32) -> u32
+pub fn first_like(
+    file: &[u32],
+    sections: Sections,
+    classes: &[u32],
+    enumerated: bool,
+    n: u32,
+) -> u32
     requires { ⌜ StartsOf (now file) (sections .starts) ⌝ }
     ensures { λ r. ⌜ r ≡ firstLike (now (file .entry)) (now (classes .entry)) enumerated n ⌝ }
 {

@@ -28,8 +28,8 @@ use definition::layout::ENTRIES;
 use definition::layout::EXPRESSIONS;
 use definition::layout::INITIALIZERS;
 use definition::layout::MEMBERS;
-use definition::layout::SHAPES;
 use definition::layout::SHAPE_FIELDS;
+use definition::layout::SHAPES;
 use definition::layout::TYPES;
 use definition::layout::VARIABLES;
 
@@ -50,7 +50,14 @@ pub fn shape_points(
     match kind {
         0..=9 => true,
         10 => run_in(file, sections, MEMBERS, a, b) & (d <= n),
-        11 => run_of(file, sections, SHAPE_FIELDS, Rule::FieldBelow { shape: n }, a, b),
+        11 => run_of(
+            file,
+            sections,
+            SHAPE_FIELDS,
+            Rule::FieldBelow { shape: n },
+            a,
+            b,
+        ),
         12 => (a < n) & run_in(file, sections, DIMENSIONS, b, c) & (c != 0),
         13 => (a < n) & constant_in(file, sections, 1, b) & constant_in(file, sections, 1, c),
         14..=15 => true,
@@ -118,10 +125,19 @@ pub fn type_points(file: &[u32], sections: Sections, t: u32) -> bool
 {
     let first = word(file, sections, TYPES, t, 9);
     let many = word(file, sections, TYPES, t, 10);
-    type_links(file, sections, t) & type_declared(file, sections, t) & block_points(file, sections, first, many)
+    type_links(file, sections, t)
+        & type_declared(file, sections, t)
+        & block_points(file, sections, first, many)
 }
 
-pub fn value_points(file: &[u32], sections: Sections, kind: u32, value: u32, first: u32, many: u32) -> bool
+pub fn value_points(
+    file: &[u32],
+    sections: Sections,
+    kind: u32,
+    value: u32,
+    first: u32,
+    many: u32,
+) -> bool
     requires { ⌜ StartsOf (now file) (sections .starts) ⌝ }
     ensures { λ r. ⌜ r ≡ Accept.valuePoints (now (file .entry)) kind value first many ⌝ }
 {

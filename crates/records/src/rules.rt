@@ -33,8 +33,8 @@ use definition::layout::EXPRESSIONS;
 use definition::layout::INITIALIZERS;
 use definition::layout::MEMBERS;
 use definition::layout::SETTINGS;
-use definition::layout::SHAPES;
 use definition::layout::SHAPE_FIELDS;
+use definition::layout::SHAPES;
 use definition::layout::TYPES;
 use definition::layout::VARIABLES;
 
@@ -110,18 +110,30 @@ pub fn plain_rule(file: &[u32], sections: Sections, section: usize, n: u32) -> b
         SHAPES => shape_words(file, sections, n),
         MEMBERS => is_name(word(file, sections, MEMBERS, n, 0)),
         SHAPE_FIELDS => {
-            shape_field_plain(word(file, sections, SHAPE_FIELDS, n, 0), word(file, sections, SHAPE_FIELDS, n, 2))
+            shape_field_plain(
+                word(file, sections, SHAPE_FIELDS, n, 0),
+                word(file, sections, SHAPE_FIELDS, n, 2),
+            )
         }
-        DIMENSIONS => dimension_plain(word(file, sections, DIMENSIONS, n, 0), word(file, sections, DIMENSIONS, n, 1)),
+        DIMENSIONS => dimension_plain(
+            word(file, sections, DIMENSIONS, n, 0),
+            word(file, sections, DIMENSIONS, n, 1),
+        ),
         TYPES => type_words(file, sections, n),
         BLOCK_FIELDS => {
-            block_field_plain(word(file, sections, BLOCK_FIELDS, n, 0), word(file, sections, BLOCK_FIELDS, n, 2))
+            block_field_plain(
+                word(file, sections, BLOCK_FIELDS, n, 0),
+                word(file, sections, BLOCK_FIELDS, n, 2),
+            )
         }
         ELEMENTS => is_name(word(file, sections, ELEMENTS, n, 0)),
         VARIABLES => word(file, sections, VARIABLES, n, 1) <= 5,
         INITIALIZERS => initializer_words(file, sections, n),
         ENTRIES => entry_words(file, sections, n),
-        EXPRESSIONS => expression_plain(word(file, sections, EXPRESSIONS, n, 0), word(file, sections, EXPRESSIONS, n, 1)),
+        EXPRESSIONS => expression_plain(
+            word(file, sections, EXPRESSIONS, n, 0),
+            word(file, sections, EXPRESSIONS, n, 1),
+        ),
         CONSTANTS => constant_words(file, sections, n),
         CHARACTERS => true,
         _ => false,
@@ -146,7 +158,12 @@ fn variable_links(file: &[u32], sections: Sections, n: u32) -> bool
     ensures { λ r. ⌜ r ≡ pointRule (now (file .entry)) 8 n ⌝ }
 {
     link_in(file, sections, TYPES, word(file, sections, VARIABLES, n, 2))
-        & number_in(file, sections, INITIALIZERS, word(file, sections, VARIABLES, n, 3))
+        & number_in(
+            file,
+            sections,
+            INITIALIZERS,
+            word(file, sections, VARIABLES, n, 3),
+        )
 }
 
 fn entry_links(file: &[u32], sections: Sections, n: u32) -> bool
@@ -186,11 +203,26 @@ pub fn point_rule(file: &[u32], sections: Sections, section: usize, n: u32) -> b
         SETTINGS => true,
         SHAPES => shape_links(file, sections, n),
         MEMBERS => true,
-        SHAPE_FIELDS => number_in(file, sections, SHAPES, word(file, sections, SHAPE_FIELDS, n, 1)),
+        SHAPE_FIELDS => number_in(
+            file,
+            sections,
+            SHAPES,
+            word(file, sections, SHAPE_FIELDS, n, 1),
+        ),
         DIMENSIONS => true,
         TYPES => type_points(file, sections, n),
-        BLOCK_FIELDS => link_in(file, sections, TYPES, word(file, sections, BLOCK_FIELDS, n, 1)),
-        ELEMENTS => number_in(file, sections, INITIALIZERS, word(file, sections, ELEMENTS, n, 1)),
+        BLOCK_FIELDS => link_in(
+            file,
+            sections,
+            TYPES,
+            word(file, sections, BLOCK_FIELDS, n, 1),
+        ),
+        ELEMENTS => number_in(
+            file,
+            sections,
+            INITIALIZERS,
+            word(file, sections, ELEMENTS, n, 1),
+        ),
         VARIABLES => variable_links(file, sections, n),
         INITIALIZERS => initializer_points(file, sections, n),
         ENTRIES => entry_links(file, sections, n),

@@ -18,9 +18,7 @@ use definition::layout::SHAPE_FIELDS;
 // What every record of a run has to meet.
 pub enum Rule {
     // a shape field whose shape is lower
-    FieldBelow {
-        shape: u32,
-    },
+    FieldBelow { shape: u32 },
     ArrayEntry,
     MemberEntry,
 }
@@ -68,7 +66,14 @@ fn meets(file: &[u32], sections: Sections, rule: Rule, n: u32) -> bool
 }
 
 // A run inside its section, each of whose records meets a rule.
-pub fn run_of(file: &[u32], sections: Sections, section: usize, rule: Rule, first: u32, many: u32) -> bool
+pub fn run_of(
+    file: &[u32],
+    sections: Sections,
+    section: usize,
+    rule: Rule,
+    first: u32,
+    many: u32,
+) -> bool
     requires { ⌜ StartsOf (now file) (sections .starts) × (section < 14) ⌝ }
     ensures { λ r. ⌜ r ≡ Accept.runOf (now (file .entry)) section (Rules.meets (now (file .entry)) rule) first many ⌝ }
 {
@@ -84,7 +89,14 @@ pub fn run_of(file: &[u32], sections: Sections, section: usize, rule: Rule, firs
 }
 
 // Entries point only to lower entries; an empty run points at none.
-pub fn lower_run(file: &[u32], sections: Sections, e: u32, rule: Rule, first: u32, many: u32) -> bool
+pub fn lower_run(
+    file: &[u32],
+    sections: Sections,
+    e: u32,
+    rule: Rule,
+    first: u32,
+    many: u32,
+) -> bool
     requires { ⌜ StartsOf (now file) (sections .starts) ⌝ }
     ensures { λ r. ⌜ r ≡ Accept.lowerRun (now (file .entry)) e (Rules.meets (now (file .entry)) rule) first many ⌝ }
 {

@@ -30,11 +30,27 @@ fn shape_of(kind: u32, a: u32, b: u32, c: u32, d: u32) -> Shape
         6 => Shape::Date { bits: a },
         7 => Shape::TimeOfDay { bits: a },
         8 => Shape::DateAndTime { bits: a },
-        9 => Shape::String { length: a, width: b },
-        10 => Shape::Enumeration { first: a, count: b, default: c, underlying: d },
+        9 => Shape::String {
+            length: a,
+            width: b,
+        },
+        10 => Shape::Enumeration {
+            first: a,
+            count: b,
+            default: c,
+            underlying: d,
+        },
         11 => Shape::Structure { first: a, count: b },
-        12 => Shape::Array { element: a, first: b, count: c },
-        13 => Shape::Subrange { base: a, least: b, greatest: c },
+        12 => Shape::Array {
+            element: a,
+            first: b,
+            count: c,
+        },
+        13 => Shape::Subrange {
+            base: a,
+            least: b,
+            greatest: c,
+        },
         14 => Shape::FunctionBlock { name: a },
         15 => Shape::Interface { name: a },
         16 => Shape::Reference { target: a },
@@ -62,7 +78,11 @@ fn declaration_of(kind: u32, named: u32, start: u32, first: u32, many: u32) -> D
         1 => Declaration::Simple { initializer: start },
         2 => Declaration::Subrange { named, start },
         3 => Declaration::String { start },
-        4 => Declaration::Array { named, first, count: many },
+        4 => Declaration::Array {
+            named,
+            first,
+            count: many,
+        },
         5 => Declaration::Structure { first, count: many },
         6 => Declaration::Reference { named },
         7 => Declaration::Enumeration { named },
@@ -84,7 +104,14 @@ pub fn declaration_at(file: &[u32], sections: Sections, t: u32) -> Declaration
     declaration_of(kind, named, start, first, many)
 }
 
-fn initializer_of(kind: u32, value: u32, first: u32, many: u32, length: u32, width: u32) -> Initializer
+fn initializer_of(
+    kind: u32,
+    value: u32,
+    first: u32,
+    many: u32,
+    length: u32,
+    width: u32,
+) -> Initializer
     ensures { λ r. ⌜ r ≡ initializerOf kind value first many length width ⌝ }
 {
     match kind {
@@ -92,7 +119,11 @@ fn initializer_of(kind: u32, value: u32, first: u32, many: u32, length: u32, wid
         1 => Initializer::Interface,
         2 => Initializer::Subrange { value },
         3 => Initializer::Simple { value },
-        4 => Initializer::String { value, length, width },
+        4 => Initializer::String {
+            value,
+            length,
+            width,
+        },
         5 => Initializer::EnumeratedValues { value },
         6 => Initializer::EnumeratedType { value },
         7 => Initializer::FunctionBlock { first, count: many },
@@ -125,7 +156,10 @@ fn entry_of(kind: u32, a: u32, b: u32) -> Entry
 {
     match kind {
         0 => Entry::Constant { number: a },
-        1 => Entry::Enumerated { value: a, qualifier: b },
+        1 => Entry::Enumerated {
+            value: a,
+            qualifier: b,
+        },
         2 => Entry::Array { first: a, count: b },
         3 => Entry::Structure { first: a, count: b },
         4 => Entry::Expression { number: a },

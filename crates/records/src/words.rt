@@ -54,7 +54,14 @@ pub fn count(file: &[u32], sections: Sections, section: usize) -> u32
 }
 
 // Word `place` of record `first + j`: in 64 bits, so that a run need not be inside its section.
-pub fn run_word(file: &[u32], sections: Sections, section: usize, first: u32, j: u32, place: usize) -> u32
+pub fn run_word(
+    file: &[u32],
+    sections: Sections,
+    section: usize,
+    first: u32,
+    j: u32,
+    place: usize,
+) -> u32
     requires { ⌜ StartsOf (now file) (sections .starts) × (section < 14) × (place < 16) ⌝ }
     ensures { λ r. ⌜ r ≡ Layout.word (now (file .entry)) section (first + j) place ⌝ }
 {

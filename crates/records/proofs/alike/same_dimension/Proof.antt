@@ -6,4 +6,9 @@ use Rattle.records.proofs.alike.same_dimension.Tie as tie
 
 pub same-dimension-spec : {M : Type 1} → statement M
 unfolding sameDimension
-same-dimension-spec = tie.close (tie.spec (λ c κs. search needs) (λ c κs. search needs) (λ c. cc))
+same-dimension-spec =
+    tie.close
+    (tie.spec
+    (λ c κs. search needs)
+    (λ c κs. search needs)
+    (λ c. rw (c .same-run-word2 .ensures, c .before .same-run-word .ensures)))

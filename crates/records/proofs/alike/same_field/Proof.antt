@@ -14,4 +14,4 @@ same-field-spec =
     (λ c κs. search needs)
     (λ c κs. search needs)
     (λ c κs. search needs)
-    (λ c. cc))
+    (λ c. rw (c .same-run-word2 .ensures, c .before .same-in .ensures, c .before .before .same-run-word .ensures, c .before .before .before .run-word2 .ensures, c .before .before .before .before .run-word .ensures)))

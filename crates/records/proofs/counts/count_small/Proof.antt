@@ -4,4 +4,10 @@ use Rattle.records.proofs.counts.count_small.Statement.{statement}
 use Rattle.records.proofs.counts.count_small.Tie as tie
 
 pub count-small-spec : {M : Type 1} → statement M
-count-small-spec = tie.close (tie.spec (λ c κs. search needs) (λ c. search needs) (λ c κs. search needs) (λ c. cc))
+count-small-spec =
+    tie.close
+    (tie.spec
+    (λ c κs. search needs)
+    (λ c. search needs)
+    (λ c κs. search needs)
+    (λ c. rw (c .most-records .ensures, c .before .count .ensures)))

@@ -6,4 +6,4 @@ use Rattle.records.proofs.counts.counts_right.Tie as tie
 
 pub counts-right-spec : {M : Type 1} → statement M
 unfolding countsRight
-counts-right-spec = tie.close (tie.spec (λ c κs. search needs) (λ c κs. search needs) (λ c. cc))
+counts-right-spec = tie.close (tie.spec (λ c κs. search needs) (λ c κs. search needs) (λ c. rw (c .count .ensures, c .before .counts-small .ensures)))

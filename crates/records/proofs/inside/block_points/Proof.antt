@@ -6,4 +6,4 @@ use Rattle.records.proofs.inside.block_points.Tie as tie
 
 pub block-points-spec : {M : Type 1} → statement M
 unfolding blockPoints
-block-points-spec = tie.close (tie.spec (λ c κs. search needs) (λ c. cc))
+block-points-spec = tie.close (tie.spec (λ c κs. search needs) (λ c. rw (c .run-in .ensures .0)))

@@ -6,4 +6,4 @@ use Rattle.records.proofs.inside.constant_in.Tie as tie
 
 pub constant-in-spec : {M : Type 1} → statement M
 unfolding constantIn
-constant-in-spec = tie.close (tie.spec (λ c κs. search needs) (λ c κs. search needs) (λ c. cc))
+constant-in-spec = tie.close (tie.spec (λ c κs. search needs) (λ c κs. search needs) (λ c. rw (c .word .ensures, c .before .number-in .ensures)))

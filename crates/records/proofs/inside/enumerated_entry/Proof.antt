@@ -6,4 +6,10 @@ use Rattle.records.proofs.inside.enumerated_entry.Tie as tie
 
 pub enumerated-entry-spec : {M : Type 1} → statement M
 unfolding enumeratedEntry
-enumerated-entry-spec = tie.close (tie.spec (λ c κs. search needs) (λ c κs. search needs) (λ c κs. search needs) (λ c. cc))
+enumerated-entry-spec =
+    tie.close
+    (tie.spec
+    (λ c κs. search needs)
+    (λ c κs. search needs)
+    (λ c κs. search needs)
+    (λ c. rw (c .word2 .ensures, c .before .word .ensures, c .before .before .number-in .ensures)))

@@ -6,4 +6,4 @@ use Rattle.records.proofs.inside.link_in.Tie as tie
 
 pub link-in-spec : {M : Type 1} → statement M
 unfolding linkIn
-link-in-spec = tie.close (tie.spec (λ c κs. search needs) (λ c. cc))
+link-in-spec = tie.close (tie.spec (λ c κs. search needs) (λ c. rw (c .count .ensures)))

@@ -6,4 +6,4 @@ use Rattle.records.proofs.inside.name_in.Tie as tie
 
 pub name-in-spec : {M : Type 1} → statement M
 unfolding nameIn
-name-in-spec = tie.close (tie.spec (λ c κs. search needs) (λ c. cc))
+name-in-spec = tie.close (tie.spec (λ c κs. search needs) (λ c. rw (c .link-in .ensures)))

@@ -6,4 +6,4 @@ use Rattle.records.proofs.inside.number_in.Tie as tie
 
 pub number-in-spec : {M : Type 1} → statement M
 unfolding numberIn
-number-in-spec = tie.close (tie.spec (λ c κs. search needs) (λ c. cc))
+number-in-spec = tie.close (tie.spec (λ c κs. search needs) (λ c. rw (c .count .ensures)))

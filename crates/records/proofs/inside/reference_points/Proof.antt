@@ -6,4 +6,4 @@ use Rattle.records.proofs.inside.reference_points.Tie as tie
 
 pub reference-points-spec : {M : Type 1} → statement M
 unfolding referencePoints
-reference-points-spec = tie.close (tie.spec (λ c κs. search needs) (λ c κs. search needs) (λ c. cc))
+reference-points-spec = tie.close (tie.spec (λ c κs. search needs) (λ c κs. search needs) (λ c. rw (c .number-in .ensures, c .before .word .ensures)))

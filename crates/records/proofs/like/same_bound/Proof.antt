@@ -14,4 +14,4 @@ same-bound-spec =
     (λ c κs. search needs)
     (λ c κs. search needs)
     (λ c κs. search needs)
-    (λ c. cc))
+    (λ c. rw (c .same-word3 .ensures, c .before .same-word2 .ensures, c .before .before .same-word .ensures, c .before .before .before .word2 .ensures, c .before .before .before .before .word .ensures)))

@@ -6,4 +6,4 @@ use Rattle.records.proofs.plain.biased.Tie as tie
 
 pub biased-spec : {M : Type 1} → statement M
 unfolding biased
-biased-spec = tie.close (tie.spec (λ c κs. search needs) (λ c. cc))
+biased-spec = tie.close (tie.spec (λ c κs. search needs) (λ c. rw (c .wrapping-add-u32 .ensures)))

@@ -6,4 +6,4 @@ use Rattle.records.proofs.plain.block_field_plain.Tie as tie
 
 pub block-field-plain-spec : {M : Type 1} → statement M
 unfolding blockFieldPlain
-block-field-plain-spec = tie.close (tie.spec (λ c κs. search needs) (λ c. cc))
+block-field-plain-spec = tie.close (tie.spec (λ c κs. search needs) (λ c. rw (c .is-name .ensures)))

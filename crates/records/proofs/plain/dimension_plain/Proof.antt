@@ -6,4 +6,4 @@ use Rattle.records.proofs.plain.dimension_plain.Tie as tie
 
 pub dimension-plain-spec : {M : Type 1} → statement M
 unfolding dimensionPlain
-dimension-plain-spec = tie.close (tie.spec (λ c κs. search needs) (λ c κs. search needs) (λ c. cc))
+dimension-plain-spec = tie.close (tie.spec (λ c κs. search needs) (λ c κs. search needs) (λ c. rw (c .biased2 .ensures, c .before .biased .ensures)))

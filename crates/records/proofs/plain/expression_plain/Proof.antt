@@ -13,6 +13,6 @@ expression-plain-spec =
     tie.close
     (tie.spec
     (λ c κs. search needs)
-    (λ c. let a = c .before .args in in-run (λ k. expressionPlain k (a .a)) 0 4 (a .kind) (omega arith) (omega arith) (refl, (refl, (refl, (refl, tt)))) (cc))
-    (λ c. let a = c .before .before .before .args in in-run (λ k. expressionPlain k (a .a)) 4 3 (a .kind) (omega arith) (omega arith) (refl, (refl, (refl, tt))) (cc))
+    (λ c. let a = c .before .args in in-run (λ k. expressionPlain k (a .a)) 0 4 (a .kind) (omega arith) (omega arith) (refl, (refl, (refl, (refl, tt)))) (refl))
+    (λ c. let a = c .before .before .before .args in in-run (λ k. expressionPlain k (a .a)) 4 3 (a .kind) (omega arith) (omega arith) (refl, (refl, (refl, tt))) (rw (c .unused1 .ensures)))
     (λ c. let a = c .before .before .args in past (λ k. expressionPlain k (a .a)) 7 (a .kind) (omega arith) (λ j. refl)))

@@ -6,4 +6,4 @@ use Rattle.records.proofs.plain.shape_field_plain.Tie as tie
 
 pub shape-field-plain-spec : {M : Type 1} → statement M
 unfolding shapeFieldPlain
-shape-field-plain-spec = tie.close (tie.spec (λ c κs. search needs) (λ c. cc))
+shape-field-plain-spec = tie.close (tie.spec (λ c κs. search needs) (λ c. rw (c .is-name .ensures)))

@@ -6,4 +6,4 @@ use Rattle.records.proofs.plain.unused2.Tie as tie
 
 pub unused2-spec : {M : Type 1} → statement M
 unfolding unused
-unused2-spec = tie.close (tie.spec (λ c κs. search needs) (λ c. cc))
+unused2-spec = tie.close (tie.spec (λ c κs. search needs) (λ c. rw (c .unused1 .ensures)))

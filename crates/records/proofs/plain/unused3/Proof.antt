@@ -6,4 +6,4 @@ use Rattle.records.proofs.plain.unused3.Tie as tie
 
 pub unused3-spec : {M : Type 1} → statement M
 unfolding unused
-unused3-spec = tie.close (tie.spec (λ c κs. search needs) (λ c. cc))
+unused3-spec = tie.close (tie.spec (λ c κs. search needs) (λ c. rw (c .unused2 .ensures)))

@@ -6,4 +6,4 @@ use Rattle.records.proofs.plain.unused4.Tie as tie
 
 pub unused4-spec : {M : Type 1} → statement M
 unfolding unused
-unused4-spec = tie.close (tie.spec (λ c κs. search needs) (λ c. cc))
+unused4-spec = tie.close (tie.spec (λ c κs. search needs) (λ c. rw (c .unused3 .ensures)))

@@ -6,4 +6,4 @@ use Rattle.records.proofs.plain.unused5.Tie as tie
 
 pub unused5-spec : {M : Type 1} → statement M
 unfolding unused
-unused5-spec = tie.close (tie.spec (λ c κs. search needs) (λ c. cc))
+unused5-spec = tie.close (tie.spec (λ c κs. search needs) (λ c. rw (c .unused4 .ensures)))

@@ -6,4 +6,4 @@ use Rattle.records.proofs.plain.unused6.Tie as tie
 
 pub unused6-spec : {M : Type 1} → statement M
 unfolding unused
-unused6-spec = tie.close (tie.spec (λ c κs. search needs) (λ c. cc))
+unused6-spec = tie.close (tie.spec (λ c κs. search needs) (λ c. rw (c .unused5 .ensures)))

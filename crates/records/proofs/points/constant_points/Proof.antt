@@ -6,4 +6,4 @@ use Rattle.records.proofs.points.constant_points.Tie as tie
 
 pub constant-points-spec : {M : Type 1} → statement M
 unfolding constantPoints
-constant-points-spec = tie.close (tie.spec (λ c κs. search needs) (λ c. cc))
+constant-points-spec = tie.close (tie.spec (λ c κs. search needs) (λ c. rw (c .run-in .ensures .0)))

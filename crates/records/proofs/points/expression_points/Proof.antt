@@ -15,8 +15,8 @@ expression-points-spec =
     (tie.spec
     (λ c κs. search needs)
     (λ c κs. search needs)
-    (λ c. rw (c .before .match .keys1) (cc))
-    (λ c. rw (c .before .match .keys2) (cc))
+    (λ c. rw (c .before .match .keys1) (rw (c .number-in .ensures)))
+    (λ c. rw (c .before .match .keys2) (rw (c .enumerated-entry .ensures)))
     (λ c. let a = c .before .before .before .args in in-run (λ k. expressionPoints (a .file .now) (a .x) k (a .a)) 2 2 (a .kind) (omega arith) (omega arith) (refl, (refl, tt)) (refl))
     (λ c. let a = c .before .before .before .before .args in in-run (λ k. expressionPoints (a .file .now) (a .x) k (a .a)) 4 3 (a .kind) (omega arith) (omega arith) (refl, (refl, (refl, tt))) (refl))
     (λ c. let a = c .before .before .before .before .args in past (λ k. expressionPoints (a .file .now) (a .x) k (a .a)) 7 (a .kind) (omega arith) (λ j. refl)))

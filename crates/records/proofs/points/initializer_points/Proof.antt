@@ -16,4 +16,4 @@ initializer-points-spec =
     (λ c κs. search needs)
     (λ c κs. search needs)
     (λ c κs. search needs)
-    (λ c. cc))
+    (λ c. rw (c .initializer-value .ensures, c .before .link-in .ensures, c .before .before .name-in .ensures, c .before .before .before .word3 .ensures, c .before .before .before .before .word2 .ensures, c .before .before .before .before .before .word .ensures)))

@@ -14,4 +14,4 @@ initializer-value-spec =
     (λ c κs. search needs)
     (λ c κs. search needs)
     (λ c κs. search needs)
-    (λ c. cc))
+    (λ c. rw (c .value-points .ensures, c .before .word4 .ensures, c .before .before .word3 .ensures, c .before .before .before .word2 .ensures, c .before .before .before .before .word .ensures)))

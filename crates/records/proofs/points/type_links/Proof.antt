@@ -17,4 +17,4 @@ type-links-spec =
     (λ c κs. search needs)
     (λ c κs. search needs)
     (λ c κs. search needs)
-    (λ c. cc))
+    (λ c. rw (c .link-in3 .ensures, c .before .word4 .ensures, c .before .before .link-in2 .ensures, c .before .before .before .word3 .ensures, c .before .before .before .before .link-in .ensures, c .before .before .before .before .before .word2 .ensures, c .before .before .before .before .before .before .number-in .ensures, c .before .before .before .before .before .before .before .word .ensures)))

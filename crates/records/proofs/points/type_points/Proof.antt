@@ -15,4 +15,4 @@ type-points-spec =
     (λ c κs. search needs)
     (λ c κs. search needs)
     (λ c κs. search needs)
-    (λ c. cc))
+    (λ c. rw (c .block-points .ensures, c .before .type-declared .ensures, c .before .before .type-links .ensures, c .before .before .before .word2 .ensures, c .before .before .before .before .word .ensures)))

@@ -7,4 +7,11 @@ use Rattle.records.proofs.rules.constant_links.Tie as tie
 
 pub constant-links-spec : {M : Type 1} → statement M
 unfolding pointRule pointRules
-constant-links-spec = tie.close (tie.spec (λ c κs. search needs) (λ c κs. search needs) (λ c κs. search needs) (λ c κs. search needs) (λ c. cc))
+constant-links-spec =
+    tie.close
+    (tie.spec
+    (λ c κs. search needs)
+    (λ c κs. search needs)
+    (λ c κs. search needs)
+    (λ c κs. search needs)
+    (λ c. rw (c .constant-points .ensures, c .before .word3 .ensures, c .before .before .word2 .ensures, c .before .before .before .word .ensures)))

@@ -16,4 +16,4 @@ constant-words-spec =
     (λ c κs. search needs)
     (λ c κs. search needs)
     (λ c κs. search needs)
-    (λ c. cc))
+    (λ c. rw (c .constant-plain .ensures, c .before .word5 .ensures, c .before .before .word4 .ensures, c .before .before .before .word3 .ensures, c .before .before .before .before .word2 .ensures, c .before .before .before .before .before .word .ensures)))

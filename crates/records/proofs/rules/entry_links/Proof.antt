@@ -7,4 +7,11 @@ use Rattle.records.proofs.rules.entry_links.Tie as tie
 
 pub entry-links-spec : {M : Type 1} → statement M
 unfolding pointRule pointRules
-entry-links-spec = tie.close (tie.spec (λ c κs. search needs) (λ c κs. search needs) (λ c κs. search needs) (λ c κs. search needs) (λ c. cc))
+entry-links-spec =
+    tie.close
+    (tie.spec
+    (λ c κs. search needs)
+    (λ c κs. search needs)
+    (λ c κs. search needs)
+    (λ c κs. search needs)
+    (λ c. rw (c .entry-points .ensures, c .before .word3 .ensures, c .before .before .word2 .ensures, c .before .before .before .word .ensures)))

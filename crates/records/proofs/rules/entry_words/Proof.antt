@@ -7,4 +7,11 @@ use Rattle.records.proofs.rules.entry_words.Tie as tie
 
 pub entry-words-spec : {M : Type 1} → statement M
 unfolding plainRule plainRules
-entry-words-spec = tie.close (tie.spec (λ c κs. search needs) (λ c κs. search needs) (λ c κs. search needs) (λ c κs. search needs) (λ c. cc))
+entry-words-spec =
+    tie.close
+    (tie.spec
+    (λ c κs. search needs)
+    (λ c κs. search needs)
+    (λ c κs. search needs)
+    (λ c κs. search needs)
+    (λ c. rw (c .entry-plain .ensures, c .before .word3 .ensures, c .before .before .word2 .ensures, c .before .before .before .word .ensures)))

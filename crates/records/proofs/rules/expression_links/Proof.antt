@@ -7,4 +7,10 @@ use Rattle.records.proofs.rules.expression_links.Tie as tie
 
 pub expression-links-spec : {M : Type 1} → statement M
 unfolding pointRule pointRules
-expression-links-spec = tie.close (tie.spec (λ c κs. search needs) (λ c κs. search needs) (λ c κs. search needs) (λ c. cc))
+expression-links-spec =
+    tie.close
+    (tie.spec
+    (λ c κs. search needs)
+    (λ c κs. search needs)
+    (λ c κs. search needs)
+    (λ c. rw (c .expression-points .ensures, c .before .word2 .ensures, c .before .before .word .ensures)))

@@ -7,4 +7,11 @@ use Rattle.records.proofs.rules.variable_links.Tie as tie
 
 pub variable-links-spec : {M : Type 1} → statement M
 unfolding pointRule pointRules
-variable-links-spec = tie.close (tie.spec (λ c κs. search needs) (λ c κs. search needs) (λ c κs. search needs) (λ c κs. search needs) (λ c. cc))
+variable-links-spec =
+    tie.close
+    (tie.spec
+    (λ c κs. search needs)
+    (λ c κs. search needs)
+    (λ c κs. search needs)
+    (λ c κs. search needs)
+    (λ c. rw (c .number-in .ensures, c .before .word2 .ensures, c .before .before .link-in .ensures, c .before .before .before .word .ensures)))

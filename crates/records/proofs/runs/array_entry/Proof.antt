@@ -7,4 +7,10 @@ use Rattle.records.proofs.runs.array_entry.Tie as tie
 
 pub array-entry-spec : {M : Type 1} → statement M
 unfolding arrayKind arrayEntry
-array-entry-spec = tie.close (tie.spec (λ c κs. search needs) (λ c κs. search needs) (λ c κs. search needs) (λ c. cc))
+array-entry-spec =
+    tie.close
+    (tie.spec
+    (λ c κs. search needs)
+    (λ c κs. search needs)
+    (λ c κs. search needs)
+    (λ c. rw (c .array-kind .ensures, c .before .word2 .ensures, c .before .before .word .ensures)))

@@ -6,4 +6,4 @@ use Rattle.records.proofs.runs.lower_run.Tie as tie
 
 pub lower-run-spec : {M : Type 1} → statement M
 unfolding lowerRun
-lower-run-spec = tie.close (tie.spec (λ c κs. search needs) (λ c. search needs) (λ c. cc))
+lower-run-spec = tie.close (tie.spec (λ c κs. search needs) (λ c. search needs) (λ c. rw (c .run-of .ensures)))

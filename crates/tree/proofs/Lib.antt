@@ -1,0 +1,12 @@
+pub mod Walks
+pub mod Stands
+pub mod Trees
+pub mod Exact
+pub mod Writes
+pub mod Moves
+pub mod Finds
+pub mod Fields
+pub mod Grows
+pub mod Repeats
+pub mod Splices
+pub mod Standing

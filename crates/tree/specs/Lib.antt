@@ -1,0 +1,5 @@
+pub mod Extent
+pub mod Words
+pub mod Node
+pub mod Part
+pub mod Grow
