@@ -187,6 +187,28 @@ def limits():
     for a in [0, 1, 2, 23, 89, 90, 1023, 1024, 2047, 2048, 4294967295]:
         for b in [0, 1, 2, 23, 88, 89, 90, 1023, 2047, 2048, 4294967295]:
             case(13, [], [a, b], 'yes' if 1 + a * b <= MOST else 'no')
+    for places, made, before in [(9, 0, 0), (9, 8, 30), (9, 9, 2046), (9, 10, 2047), (4294967295, 0, 2048)]:
+        for values, nodes in [(0, 0), (1, 1), (1, 2), (2, 1), (4294967295, 1), (1, 4294967295)]:
+            adds(places, made, before, values, nodes)
+            for times in [0, 1, 2, 8, 9, 10, 2047]:
+                copies(times, places, made, before, values, nodes)
+    # too large and too many at the same copy, and each one copy before the other
+    for times, places, values, nodes in [(3, 4, 2, 1023), (4, 4, 2, 682), (4, 5, 2, 682), (4, 6, 2, 682), (2047, 2047, 1, 1), (2048, 2048, 1, 1), (2048, 2047, 1, 1)]:
+        copies(times, places, 0, 0, values, nodes)
+
+
+def added(places, values, nodes):
+    """Whether so many values of so many nodes fit in the places under one head: its nodes are counted first."""
+    return 'large' if 1 + nodes > MOST else 'many' if values > places else 'fits'
+
+
+def adds(places, made, before, values, nodes):
+    case(14, [], [places, made, before, values, nodes], added(places, made + values, before + nodes))
+
+
+def copies(times, places, made, before, values, nodes):
+    steps = [added(places, made + k * values, before + k * nodes) for k in range(1, times + 1)]
+    case(15, [], [times, places, made, before, values, nodes], next((a for a in steps if a != 'fits'), 'fits'))
 
 
 def wrote(function, words, args, at, new, inside, yes=None):
@@ -236,12 +258,18 @@ def repeat(words, at, nodes, times):
 def replace(prefix, tree, i, fresh, gap, room, name=None):
     """Part i of a tree that stands behind `prefix` words gives way to a tree behind a gap."""
     words = [random.randrange(99) for _ in range(prefix)] + written(tree)
-    t = (prefix, len(words))
     words += [random.randrange(99) for _ in range(gap)]
+    at = len(words)
+    words += written(fresh) + [random.randrange(9) for _ in range(room)]
+    replace_in(words, prefix, tree, i, at, fresh, name)
+
+
+def replace_in(words, prefix, tree, i, at, fresh, name=None):
+    """Part i of the tree behind `prefix` words gives way to the tree at `at`."""
+    t = (prefix, prefix + len(written(tree)))
     begin = prefix + 6 + len(run(tree[6][:i]))
     p = (begin, begin + len(written(tree[6][i])))
-    f = (len(words), len(words) + len(written(fresh)))
-    words += written(fresh) + [random.randrange(9) for _ in range(room)]
+    f = (at, at + len(written(fresh)))
     tail = t[1] - p[1]
     args = list(t + p + f) + [f[1] + tail, name or 0]
     put = fresh if name is None else named(fresh, name)
@@ -388,10 +416,31 @@ def large():
     replace(6, few, 1, some_tree(2046, 4), 0, 6)
     many = structure([leaf(1), some_tree(2000, 2)] + [leaf(3) for _ in range(46)])
     replace(6, many, 1, leaf(4), 6, 276)
-    zeros = written(array([leaf(), leaf()])) + [0] * 12264
+    zeros = written(array([leaf(), leaf()])) + [0] * 12270
     repeat(zeros, 6, 2, 1023)
     repeat(zeros, 0, 3, 682)
     repeat(zeros, 0, 3, 683)
+    for nodes, times in [(1, 2047), (1, 2048), (23, 89), (2, 1024)]:
+        repeat(zeros, 0, nodes, times)
+        repeat(zeros, 6, nodes, times)
+    base = list(range(30))
+    for at in [0, 12, 24]:
+        for nodes, before in [(1, 2046), (1, 2047), (0, 2047), (0, 2048)]:
+            gather(base, 6, nodes, at, before)
+    at_the_limit()
+
+
+def at_the_limit():
+    """The first, the middle and the last part give way to a tree that makes the whole 2,048 nodes large, and to the tree around it."""
+    tree = structure([some_tree(4, 1), some_tree(4, 2), some_tree(4, 3)])
+    inner = some_tree(2039, 4)
+    outer = structure([inner], 5)
+    at = len(written(tree))
+    words = written(tree) + written(outer) + [8] * 48
+    for i in range(3):
+        for name in [None, 6]:
+            replace_in(words, 0, tree, i, at + 6, inner, name)
+            replace_in(words, 0, tree, i, at, outer, name)
 
 
 def main():

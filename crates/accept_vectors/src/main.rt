@@ -2,60 +2,22 @@
 // Prints how many were right, and the number and the answer of each that was not.
 ghost use Prim.Native.Nat.{_<_, _≤_};
 use definition::answers::Acceptance;
-use libc::STDIN_FILENO;
-use libc::STDOUT_FILENO;
 use records::accept::accept;
 use std::num::wrapping_add_u64;
+use vector_io::Got;
+use vector_io::print_line;
+use vector_io::read_word;
+use vector_io::read_words;
 
 // More words than any stored file has.
 const MOST_WORDS: usize = 66000;
 // More files than are stored.
 const MOST_FILES: usize = 100000;
 
-enum Got {
-    Word(u32),
-    End,
-}
-
 enum Replayed {
     Right,
     Wrong(u32),
     End,
-}
-
-fn wide(b: u8) -> u32
-    ensures { λ r. ⌜ r < 256 ⌝ }
-{
-    b as u32
-}
-
-// Four bytes, the least first.
-fn read_word() -> Got {
-    let mut four = [0u8; 4];
-    let n = io::read_full(STDIN_FILENO, &mut four);
-    if n < 4 {
-        return Got::End;
-    }
-    let low = wide(four[0]) + wide(four[1]) * 256;
-    let high = wide(four[2]) + wide(four[3]) * 256;
-    Got::Word(low + high * 65536)
-}
-
-// Fills the front of `words`; false where the input ends first or there is no room.
-fn read_words(words: &mut [u32], count: usize) -> bool {
-    if words.len() < count {
-        return false;
-    }
-    let mut i = 0;
-    while i < count {
-        let got = read_word();
-        let Got::Word(w) = got else {
-            return false;
-        };
-        words[i] = w;
-        i += 1;
-    }
-    true
 }
 
 fn refusal(words: &[u32], count: usize) -> u32 {
@@ -88,19 +50,13 @@ fn replay(words: &mut [u32]) -> Replayed {
     Replayed::Wrong(answer)
 }
 
-fn newline() {
-    io::write_all(STDOUT_FILENO, b"\n");
-}
-
 // 1 for a right answer; a wrong one is printed with the file's number.
 fn judged(replayed: Replayed, k: usize) -> u64 {
     match replayed {
         Replayed::Right => 1,
         Replayed::Wrong(answer) => {
-            io::print_decimal(STDOUT_FILENO, k as u64);
-            newline();
-            io::print_decimal(STDOUT_FILENO, answer as u64);
-            newline();
+            print_line(k as u64);
+            print_line(answer as u64);
             0
         }
         Replayed::End => 0,
@@ -127,8 +83,7 @@ fn replay_all(words: &mut [u32]) {
         right = wrapping_add_u64(right, judged(replayed, k));
         k = next(replayed, k);
     }
-    io::print_decimal(STDOUT_FILENO, right);
-    newline();
+    print_line(right);
 }
 
 fn main() {

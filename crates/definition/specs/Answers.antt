@@ -18,7 +18,7 @@ use Rattle.definition.specs.declared.answers.SheetAnswer.the-variants as
 use Rattle.definition.specs.declared.answers.CheckAnswer.{CheckAnswer}
 use Rattle.definition.specs.declared.answers.CheckAnswer.the-variants as checking
 use Rattle.definition.specs.Base.{pick, choose}
-use Rattle.definition.specs.Layout.{count, types, variables, entries}
+use Rattle.definition.specs.Layout.{count, shapes, types, variables, entries}
 use Rattle.definition.specs.Accept.{need, verdict}
 use Rattle.definition.specs.Tree.{nodes, flatten}
 use Rattle.definition.specs.Ask.{Result, ok, none, large, Outcome}
@@ -36,17 +36,17 @@ unfoldable pub acceptAnswer : List ℕ → Acceptance
 acceptAnswer f = answered (verdict f) acceptance.Refused (λ u. acceptance.Accepted)
 
 -- ---- work words
--- room for two trees of 2,048 nodes at each level, a word for each type and entry, and a line of 12,291 words for each type
+-- the check reads its lines from the sheet: it wants room for two trees of 2,048 nodes at each level, and a word for each shape, type and entry
+unfoldable pub checkWords : List ℕ → ℕ
+checkWords f = levels f * 24576 + count f shapes + count f types + count f entries
+
+-- the resolver remembers a line of at most 12,291 words for each type
 unfoldable pub resolverWords : List ℕ → ℕ
-resolverWords f = levels f * 24576 + count f types + count f entries + count f types * 12291
+resolverWords f = checkWords f + count f types * 12291
 
 -- the writer's lines never need more words than the sheet itself
 unfoldable pub writerWords : List ℕ → ℕ → ℕ
-writerWords f out = levels f * 24576 + count f types + count f entries + min out (count f types * 12291)
-
--- the check reads its lines from the sheet
-unfoldable pub checkWords : List ℕ → ℕ
-checkWords f = levels f * 24576 + count f types + count f entries
+writerWords f out = checkWords f + min out (count f types * 12291)
 
 unfoldable pub wordsAnswer : List ℕ → ℕ → WorkWords
 wordsAnswer f n = answered (verdict f) workWords.Refused (λ u. workWords.Words n)

@@ -10,7 +10,7 @@ use Rattle.definition.specs.declared.answers.Acceptance.{Acceptance}
 use Rattle.definition.specs.declared.answers.Acceptance.the-variants.{Accepted, Refused}
 use Rattle.definition.specs.Base.{choose}
 use Rattle.definition.specs.Accept.{verdict}
-use Rattle.definition.specs.Answers.{answered, acceptAnswer, says, acceptanceSays}
+use Rattle.definition.specs.Answers.{acceptAnswer, says, acceptanceSays}
 
 pub says-verdict : (f : List ℕ) → acceptanceSays (acceptAnswer f) .refusal ≡ verdict f
 unfolding acceptAnswer acceptanceSays says

@@ -4,6 +4,8 @@ ghost use Rattle.definition.specs.Accept.{verdict};
 use definition::answers::Acceptance;
 use records::accept::accept;
 
+pub mod convert;
+
 // 0 for an accepted file, or its first refusal of 1 to 6.
 #[no_mangle]
 pub extern "C" fn wirkesu_accept(file: &[u32]) -> u32

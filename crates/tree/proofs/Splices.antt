@@ -1,4 +1,4 @@
--- A part that gives way: two moves. Assumes nothing.
+-- A part that gives way: where the answer is, and the moves for a longer tree. Assumes nothing.
 use mathlib.Core.Path.{_≡_, refl, ap, sym, _∙_}
 use mathlib.Core.Bool.{Bool, true, false}
 use mathlib.Core.Logic.{_⊎_, inl, inr, ⊎-elim}
@@ -7,7 +7,7 @@ use Prim.Native.Nat.{ℕ, _+_, _-_, _*_, _≤_, _<_}
 use native.Mathlib.Omega.{arith}
 use lib.Dec.{leb}
 use lib.ListN.{length, take, drop, set, length-drop}
-use lib.Seq.{paste, length-paste, take-paste, drop-paste, take-take, take-append-le, drop-append-le, drop-drop, length-take-le, slice}
+use lib.Seq.{paste, length-paste, take-paste, drop-paste, take-take, take-append-le, drop-append-le, length-take-le, slice}
 use borrow.Author.Needs.{needs}
 use borrow.Author.Tests.{leb-true, le-leb, lt-leb}
 use Rattle.definition.specs.Base.{pick}
@@ -19,7 +19,7 @@ use Rattle.tree.specs.declared.grow.Grown.the-variants.{Ends, TooLarge, 
 use Rattle.tree.specs.Words.{Moves}
 use Rattle.tree.specs.Node.{Renamed}
 use Rattle.tree.specs.Grow.{inOrder, Ordered, tail, moved, orderedOf, replacedOf, Room, Spliced, Replaced, renamed, Assigned}
-use Rattle.tree.proofs.Stands.{take-drop}
+use Rattle.tree.proofs.Stands.{take-drop, drop-past}
 
 module _ (tree part fresh : Span) {b : Bool} (e : b ≡ inOrder tree part fresh) where
   pub ordered : b ≡ true → Ordered tree part fresh
@@ -78,7 +78,7 @@ module _ (s : List ℕ) (tree part fresh : Span) where
       refl
       (sym i ∙ q)
 
--- ---- two moves
+-- ---- a longer tree
 module _ {old : List ℕ} {tree part fresh : Span} (r : Room old tree part fresh) where
   abbrev mid : List ℕ
   mid = paste old (fresh .end) (drop (part .end) old) (tail tree part)
@@ -137,15 +137,8 @@ module _ {old : List ℕ} {tree part fresh : Span} (r : Room old tree part fresh
     back-is : drop (fresh .end + tail tree part) t ≡ drop (fresh .end + tail tree part) old
     back-is =
         let o = order in
-        let n : ℕ = fresh .end + tail tree part - (part .begin + moved tree part fresh) in
-        let e : part .begin + moved tree part fresh + (fresh .end + tail tree part - (part .begin + moved tree part fresh)) ≡ fresh .end + tail tree part = omega (arith, target) in
-        let d : drop (part .begin + moved tree part fresh) t ≡ drop (part .begin + moved tree part fresh) mid =
-        rw (q, p) (drop-paste mid (part .begin) (drop (fresh .begin) mid) (moved tree part fresh) (omega (arith, mid-length, r .room)) (simp length-drop (omega (arith, mid-length, r .room)))) in
-        ap (λ (k : ℕ). drop k t) (sym e)
-        ∙ sym (drop-drop (fresh .end + tail tree part - (part .begin + moved tree part fresh)) (part .begin + moved tree part fresh) t)
-        ∙ ap (drop (fresh .end + tail tree part - (part .begin + moved tree part fresh))) d
-        ∙ drop-drop (fresh .end + tail tree part - (part .begin + moved tree part fresh)) (part .begin + moved tree part fresh) mid
-        ∙ ap (λ (k : ℕ). drop k mid) e
+        drop-past (part .begin + moved tree part fresh) (fresh .end + tail tree part) t mid target
+        (rw (q, p) (drop-paste mid (part .begin) (drop (fresh .begin) mid) (moved tree part fresh) (omega (arith, mid-length, r .room)) (simp length-drop (omega (arith, mid-length, r .room)))))
         ∙ drop-paste old (fresh .end) (drop (part .end) old) (tail tree part) (omega (arith, r .room)) tail-long
 
     pub spliced : Spliced old tree part fresh t

@@ -9,9 +9,9 @@ use lib.Dec.{leb}
 use lib.ListN.{length, take, drop, set, length-append, length-drop, length-set}
 use lib.Seq.{slice, paste, take-paste, drop-paste, length-paste, take-add, take-at, take-all, take-take, take-set-le, drop-set-add, length-take-le}
 use borrow.Author.Tests.{le-leb, lt-leb, leb-true, leb-false}
-use Rattle.definition.specs.Tree.{Node, Tree, Trees, node, tcons, head, parts, many, nodes, nodesIn, flatten, flattenAll, leaf, headed, named, join, times, replaced, mostNodes}
-use Rattle.definition.specs.Iec.{assigned}
-use Rattle.laws.specs.Whole.{flatten-length, flattenAll-length, flattenAll-join, nodesIn-join, nodes-some}
+use Rattle.definition.specs.Tree.{Node, Tree, Trees, node, tcons, head, many, nodes, nodesIn, flatten, flattenAll, leaf, headed, named, join, times, rest, replaced, mostNodes}
+use Rattle.definition.specs.Iec.{filled, assigned}
+use Rattle.laws.specs.Whole.{flatten-length, flattenAll-length, flattenAll-join, nodes-some, many-join, many-rest}
 use Rattle.tree.specs.declared.extent.Extent.{Extent}
 use Rattle.tree.specs.declared.extent.Extent.the-variants.{Ends}
 use Rattle.tree.specs.declared.part.Found.the-variants.{At}
@@ -22,7 +22,7 @@ use Rattle.tree.specs.Part.{place}
 use Rattle.tree.specs.Grow.{moved, Spliced, renamed}
 use Rattle.tree.proofs.Stands.{take-drop, stand-rest, rest-stand, stand-append, stand-front, stand-back, stand-kept, stand-behind, wrote-stand}
 use Rattle.tree.proofs.Repeats.{length-rept}
-use Rattle.tree.proofs.Fields.{Named, place-named}
+use Rattle.tree.proofs.Fields.{head-stands, Named, place-named}
 
 -- ---- what was written
 -- an answer that is an end: the test held, and the words are there
@@ -102,6 +102,22 @@ stand-take {s} {at} {ws} {end} x =
     let n : at + length ws ≡ end = x .long in
     rw (← x .long) (take-add at (length ws) s ∙ ap (λ (l : List ℕ). take at s ++ l) (take-drop at (length ws) s ∙ ap (λ (k : ℕ). slice at k s) n ∙ x .is))
 
+sized : (t : Tree) {ws : List ℕ} → flatten t ≡ ws → {n : ℕ} → n ≡ length ws → n ≡ nodes t * 6
+sized t e i = omega (arith, i, ap (λ (l : List ℕ). length l) e, flatten-length t)
+
+-- what is before the part, what takes its place, and what follows it
+module _ {old : List ℕ} {tree part fresh : Span} {front us back : List ℕ}
+    (a : Stand old (tree .begin) front (part .begin)) (y : Stand old (fresh .begin) us (fresh .end)) (b : Stand old (part .end) back (tree .end)) where
+  pub spliced-size : part .begin - tree .begin + moved tree part fresh ≡ length (front ++ (us ++ back))
+  spliced-size = simp length-append (omega (arith, a .long, y .long, b .long))
+
+  pub spliced-words : {new : List ℕ} → Spliced old tree part fresh new → Stand new (tree .begin) (front ++ (us ++ back)) (part .begin + moved tree part fresh)
+  spliced-words {new} z =
+      wrote-stand old new (tree .begin) (front ++ (us ++ back)) (part .begin + moved tree part fresh)
+      (omega (arith, a .long, a .fits))
+      (omega (arith, a .long, spliced-size))
+      (z .front ∙ rw (stand-take a, y .is, b .is) (append-assoc (take (tree .begin) old) front (us ++ back)))
+
 module _ (old : List ℕ) (tree : Span) (h : Node) (f : Trees) (p : Tree) (b : Trees) (x : Stand old (tree .begin) (flatten (node h (join f (tcons p b)))) (tree .end)) where
   abbrev before : List ℕ
   before = wordsOf (asNode h) ++ flattenAll f
@@ -143,28 +159,10 @@ module _ (old : List ℕ) (tree : Span) (h : Node) (f : Trees) (p : Tree) (b : T
 
       -- the size that `replace` tests is the new tree's
       pub grown-size : part .begin - tree .begin + moved tree part fresh ≡ nodes (node h (join f (tcons u b))) * 6
-      unfolding nodes
-      grown-size =
-          omega (
-            arith,
-            nodesIn-join f (tcons u b),
-            flatten-length u,
-            y .long,
-            flattenAll-length b,
-            back-stands .long,
-          )
+      grown-size = sized (node h (join f (tcons u b))) new-split (spliced-size front-stands y back-stands)
 
       pub spliced-there : {new : List ℕ} → Spliced old tree part fresh new → Stand new (tree .begin) (flatten (node h (join f (tcons u b)))) (part .begin + moved tree part fresh)
-      spliced-there {new} z =
-          let t : Tree = node h (join f (tcons u b)) in
-          let n : length (flatten (node h (join f (tcons u b)))) ≡ 6 * nodes (node h (join f (tcons u b))) = flatten-length (node h (join f (tcons u b))) in
-          let s : flatten (node h (join f (tcons u b))) ≡ before ++ (flatten u ++ flattenAll b) = new-split in
-          let w : take (part .begin + moved tree part fresh) new ≡ take (tree .begin) old ++ flatten (node h (join f (tcons u b))) =
-          z .front ∙ rw (stand-take front-stands, y .is, back-stands .is, s) (append-assoc (take (tree .begin) old) before (flatten u ++ flattenAll b)) in
-          wrote-stand old new (tree .begin) (flatten (node h (join f (tcons u b)))) (part .begin + moved tree part fresh)
-          (omega (arith, x .long, x .fits))
-          (omega (arith, n, grown-size, front-place))
-          w
+      spliced-there z = rw new-split (spliced-words front-stands y back-stands z)
 
 -- the definition's test of what was gathered, said of words
 pub limit-words : (n : ℕ) → leb (n * 6) (mostNodes * 6) ≡ leb n mostNodes
@@ -199,6 +197,29 @@ module _ (old : List ℕ) (tree : Span) (h : Node) (ts : Trees) (x : Stand old (
       go : (f : Trees) (p : Tree) (b : Trees) → ts ≡ join f (tcons p b) → part .begin ≡ tree .begin + 6 + 6 * nodesIn f → part .end ≡ part .begin + 6 * nodes p
           → replaced name u ts ≡ join f (tcons u b) → Stand new (tree .begin) (flatten (node h (replaced name u ts))) (part .begin + moved tree part fresh)
       go f p b k i j v = rw v (spliced-there old tree h f p b (rw k at x) part i j u fresh y z)
+
+-- the leading values of an array give way to others: the definition's `filled`, and the test of `formed`
+module _ (old : List ℕ) (tree : Span) (h : Node) (ts : Trees) (x : Stand old (tree .begin) (flatten (node h ts)) (tree .end))
+    (us : Trees) (part : Span) (i : part .begin ≡ tree .begin + 6) (b : Stand old (part .end) (flattenAll (rest (many us) ts)) (tree .end))
+    (fresh : Span) (y : Stand old (fresh .begin) (flattenAll us) (fresh .end)) where
+  head-there : Stand old (tree .begin) (wordsOf (asNode h)) (part .begin)
+  unfolding head
+  head-there = rw i (head-stands old (tree .begin) (node h ts) (tree .end) x)
+
+  filled-split : flatten (node h (filled ts us)) ≡ wordsOf (asNode h) ++ (flattenAll us ++ flattenAll (rest (many us) ts))
+  unfolding flatten filled
+  filled-split = rw flattenAll-join
+
+  pub filled-limit : leb (part .begin - tree .begin + moved tree part fresh) (mostNodes * 6) ≡ leb (nodes (node h (filled ts us))) mostNodes
+  filled-limit = rw (sized (node h (filled ts us)) filled-split (spliced-size head-there y b)) (limit-words (nodes (node h (filled ts us))))
+
+  pub filled-there : {new : List ℕ} → Spliced old tree part fresh new → Stand new (tree .begin) (flatten (node h (filled ts us))) (part .begin + moved tree part fresh)
+  filled-there z = rw filled-split (spliced-words head-there y b z)
+
+-- the count in its head stays right
+pub many-filled : (ts us : Trees) → many us ≤ many ts → many (filled ts us) ≡ many ts
+unfolding filled
+many-filled ts us h = rw (many-join us (rest (many us) ts), many-rest (many us) ts) (omega arith)
 
 -- the same where the new tree takes the name: the definition's `assigned`
 module _ (old : List ℕ) (tree : Span) (h : Node) (ts : Trees) (x : Stand old (tree .begin) (flatten (node h ts)) (tree .end))

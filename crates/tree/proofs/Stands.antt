@@ -13,6 +13,12 @@ take-drop zero n l = rw zero-add
 take-drop (suc a) n [] = rw suc-add (take-nil n)
 take-drop (suc a) n (x ∷ l) = rw suc-add (take-drop a n l)
 
+-- lists that are the same from a place on are so further on
+pub drop-past : (n k : ℕ) (s t : List ℕ) → n ≤ k → drop n s ≡ drop n t → drop k s ≡ drop k t
+drop-past n k s t h e =
+    let i : n + (k - n) ≡ k = omega arith in
+    ap (λ (j : ℕ). drop j s) (sym i) ∙ sym (drop-drop (k - n) n s) ∙ ap (drop (k - n)) e ∙ drop-drop (k - n) n t ∙ ap (λ (j : ℕ). drop j t) i
+
 -- ---- what stands, and what is behind it
 pub stand-rest : {s : List ℕ} {at : ℕ} {ws : List ℕ} {end : ℕ} → Stand s at ws end → drop at s ≡ ws ++ drop end s
 stand-rest {s} {at} {ws} {end} x =

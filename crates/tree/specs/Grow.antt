@@ -2,7 +2,7 @@
 use mathlib.Core.Path.{_≡_}
 use mathlib.Core.Bool.{Bool, _&&_}
 use mathlib.Core.List.{List, _++_}
-use Prim.Native.Nat.{ℕ, _+_, _-_, _*_, _≤_}
+use Prim.Native.Nat.{ℕ, suc, _+_, _-_, _*_, _≤_}
 use lib.Dec.{leb}
 use lib.ListN.{length, take, drop, set}
 use lib.Seq.{paste, slice}
@@ -11,11 +11,23 @@ use Rattle.definition.specs.Tree.{mostNodes}
 use Rattle.tree.specs.declared.grow.Span.{Span}
 use Rattle.tree.specs.declared.grow.Grown.{Grown}
 use Rattle.tree.specs.declared.grow.Grown.the-variants.{Ends, TooLarge, Not}
+use Rattle.tree.specs.Words.{rept}
 
 -- where it is small enough and a test holds, the first n words of `src` are written at `at`, and the answer is where they end; else nothing is
 pub record Grew (small test : Bool) (old : List ℕ) (at : ℕ) (src : List ℕ) (n : ℕ) (r : Grown) (new : List ℕ) : Type 0 where
   pub says : r ≡ pick small (pick test (Ends (at + n)) Not) TooLarge
   pub is : new ≡ pick (small && test) (paste old at src n) old
+
+-- nodes of another slice, under a head that has some already: the definition's `gathered`
+abbrev pub Gathered : List ℕ → ℕ → ℕ → List ℕ → ℕ → ℕ → Grown → List ℕ → Type 0
+Gathered from a nodes old at size r new =
+    Grew (leb (suc (size + nodes)) mostNodes) (leb (a + nodes * 6) (length from) && leb (at + nodes * 6) (length old)) old at (drop a from) (nodes * 6) r new
+
+-- a run of nodes, so many times in all: the definition's `repeatedDefaults`
+abbrev pub Repeated : List ℕ → ℕ → ℕ → ℕ → Grown → List ℕ → Type 0
+Repeated old at nodes times r new =
+    Grew (leb (suc (times * nodes)) mostNodes) (leb (at + nodes * 6) (length old) && leb (at + nodes * 6 * times) (length old)) old at
+    (rept times (take (nodes * 6) (drop at old))) (nodes * 6 * times) r new
 
 -- ---- a part of a tree gives way to a tree that lies behind
 -- the part lies within the tree, and the new one behind it
@@ -51,6 +63,11 @@ replacedOf len tree part fresh = pick (inOrder tree part fresh) (orderedOf len t
 pub record Room (s : List ℕ) (tree part fresh : Span) : Type 0 where
   pub ordered : Ordered tree part fresh
   pub room : fresh .end + tail tree part ≤ length s
+
+-- the same, of a new tree that is no longer than the part
+pub record Within (s : List ℕ) (tree part fresh : Span) : Type 0 where
+  pub room : Room s tree part fresh
+  pub short : fresh .end - fresh .begin ≤ part .end - part .begin
 
 -- up to the answer, and behind the words that were moved; what is between them is scratch
 pub record Spliced (old : List ℕ) (tree part fresh : Span) (new : List ℕ) : Type 0 where

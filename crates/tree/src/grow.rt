@@ -1,12 +1,9 @@
-// Trees that grow: more values under a head, a run repeated, a part replaced. Each is too large before it writes.
+// Trees that grow: more values under a head, a run repeated, a part replaced. What would be too large is found before anything is written.
 ghost use mathlib.Core.Path.{_≡_};
-ghost use mathlib.Core.Bool.{_&&_};
-ghost use Prim.Native.Nat.{suc, _+_, _*_, _≤_};
-ghost use lib.Dec.{leb};
-ghost use lib.ListN.{length, take, drop};
+ghost use Prim.Native.Nat.{suc, _*_, _≤_};
 ghost use Rattle.definition.specs.Tree.{mostNodes};
-ghost use Rattle.tree.specs.Grow.{Grew, inOrder, Ordered, orderedOf, replacedOf, Room, Spliced, Replaced, Assigned};
-ghost use Rattle.tree.specs.Words.{Wrote, rept};
+ghost use Rattle.tree.specs.Grow.{Gathered, Repeated, inOrder, Ordered, orderedOf, replacedOf, Room, Within, Spliced, Replaced, Assigned};
+ghost use Rattle.tree.specs.Words.{WroteRun};
 use crate::extent::Extent;
 use crate::extent::NODE_WORDS;
 use crate::limit::MOST_NODES;
@@ -41,7 +38,7 @@ pub fn gather(
     at: usize,
     size: usize,
 ) -> Grown
-    ensures { λ r. ⌜ Grew (leb (suc (size + nodes)) mostNodes) (leb (a + nodes * 6) (length (now (from .entry))) && leb (at + nodes * 6) (length (now (out .entry)))) (now (out .entry)) at (drop a (now (from .entry))) (nodes * 6) r (now (out .exit)) ⌝ }
+    ensures { λ r. ⌜ Gathered (now (from .entry)) a nodes (now (out .entry)) at size r (now (out .exit)) ⌝ }
 {
     if may_gather(size, nodes) {
         match copy(from, a, nodes * NODE_WORDS, out, at) {
@@ -55,7 +52,7 @@ pub fn gather(
 
 fn repeat_small(out: &mut [u32], at: usize, nodes: usize, times: usize) -> Extent
     requires { ⌜ suc (times * nodes) ≤ mostNodes ⌝ }
-    ensures { λ r. ⌜ Wrote (leb (at + nodes * 6) (length (now (out .entry))) && leb (at + nodes * 6 * times) (length (now (out .entry)))) (now (out .entry)) at (rept times (take (nodes * 6) (drop at (now (out .entry))))) (nodes * 6 * times) r (now (out .exit)) ⌝ }
+    ensures { λ r. ⌜ WroteRun (now (out .entry)) at nodes times r (now (out .exit)) ⌝ }
 {
     if nodes_fit(out.len(), at, nodes) {
         let words = nodes * NODE_WORDS;
@@ -73,7 +70,7 @@ fn repeat_small(out: &mut [u32], at: usize, nodes: usize, times: usize) -> Exten
 
 // The nodes at a place, so many times one behind the other.
 pub fn repeat(out: &mut [u32], at: usize, nodes: usize, times: usize) -> Grown
-    ensures { λ r. ⌜ Grew (leb (suc (times * nodes)) mostNodes) (leb (at + nodes * 6) (length (now (out .entry))) && leb (at + nodes * 6 * times) (length (now (out .entry)))) (now (out .entry)) at (rept times (take (nodes * 6) (drop at (now (out .entry))))) (nodes * 6 * times) r (now (out .exit)) ⌝ }
+    ensures { λ r. ⌜ Repeated (now (out .entry)) at nodes times r (now (out .exit)) ⌝ }
 {
     if may_repeat(times, nodes) {
         match repeat_small(out, at, nodes, times) {
@@ -130,8 +127,8 @@ fn replaced_end(length: usize, tree: Span, part: Span, fresh: Span) -> Grown
     }
 }
 
-// What follows the part goes behind the new tree, then both go down to the part.
-fn splice(out: &mut [u32], tree: Span, part: Span, fresh: Span)
+// A longer tree: what follows the part goes behind it, then both go down to the part.
+fn splice_longer(out: &mut [u32], tree: Span, part: Span, fresh: Span)
     requires { ⌜ Room (now out) tree part fresh ⌝ }
     ensures { λ _. ⌜ Spliced (now (out .entry)) tree part fresh (now (out .exit)) ⌝ }
 {
@@ -140,8 +137,32 @@ fn splice(out: &mut [u32], tree: Span, part: Span, fresh: Span)
     move_words(out, fresh.begin, fresh.end - fresh.begin + tail, part.begin);
 }
 
-// A part of a tree gives way to the tree that lies behind, and the answer is the tree's new end.
-// The words from there to the end of the new tree and what follows the part, behind each other, are scratch.
+// A tree that is no longer than the part takes its place, and what follows the part closes up. One just as long moves nothing else.
+fn splice_within(out: &mut [u32], tree: Span, part: Span, fresh: Span)
+    requires { ⌜ Within (now out) tree part fresh ⌝ }
+    ensures { λ _. ⌜ Spliced (now (out .entry)) tree part fresh (now (out .exit)) ⌝ }
+{
+    let size = fresh.end - fresh.begin;
+    move_words(out, fresh.begin, size, part.begin);
+    let to = part.begin + size;
+    if to < part.end {
+        move_words(out, part.end, tree.end - part.end, to);
+    }
+}
+
+fn splice(out: &mut [u32], tree: Span, part: Span, fresh: Span)
+    requires { ⌜ Room (now out) tree part fresh ⌝ }
+    ensures { λ _. ⌜ Spliced (now (out .entry)) tree part fresh (now (out .exit)) ⌝ }
+{
+    if part.end - part.begin < fresh.end - fresh.begin {
+        splice_longer(out, tree, part, fresh);
+    } else {
+        splice_within(out, tree, part, fresh);
+    }
+}
+
+// A part of a tree gives way to the tree that lies behind it, and the answer is where the whole then ends.
+// The words from there up to `fresh.end`, and as many more as follow the part, are scratch.
 pub fn replace(out: &mut [u32], tree: Span, part: Span, fresh: Span) -> Grown
     ensures { λ r. ⌜ Replaced (now (out .entry)) tree part fresh r (now (out .exit)) ⌝ }
 {

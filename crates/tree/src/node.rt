@@ -1,12 +1,11 @@
 // Nodes: a name or 0, a kind, then a constant's four words.
 ghost use mathlib.Core.Path.{_≡_};
 ghost use Prim.Native.Nat.{_+_, _≤_};
-ghost use lib.Dec.{leb};
 ghost use lib.ListN.{length};
 ghost use lib.Seq.{paste};
 ghost use Rattle.definition.specs.Tree.{flatten, leaf};
 ghost use Rattle.tree.specs.Node.{nodeOf, nodeAt, wordsOf, headWords, Renamed};
-ghost use Rattle.tree.specs.Words.{Wrote};
+ghost use Rattle.tree.specs.Words.{WroteNode};
 use crate::extent::Extent;
 use crate::extent::NODE_WORDS;
 use crate::words::fits;
@@ -64,7 +63,7 @@ fn put(out: &mut [u32], at: usize, n: Node)
 
 // Writes a node where there is room, and answers where it ends.
 pub fn write(out: &mut [u32], at: usize, n: Node) -> Extent
-    ensures { λ r. ⌜ Wrote (leb (at + 6) (length (now (out .entry)))) (now (out .entry)) at (wordsOf n) 6 r (now (out .exit)) ⌝ }
+    ensures { λ r. ⌜ WroteNode (now (out .entry)) at (wordsOf n) r (now (out .exit)) ⌝ }
 {
     if fits(out.len(), at, NODE_WORDS) {
         put(out, at, n);
@@ -84,7 +83,7 @@ pub fn write_leaf(
     high: u32,
     width: u32,
 ) -> Extent
-    ensures { λ r. ⌜ Wrote (leb (at + 6) (length (now (out .entry)))) (now (out .entry)) at (flatten (leaf kind sign low high width)) 6 r (now (out .exit)) ⌝ }
+    ensures { λ r. ⌜ WroteNode (now (out .entry)) at (flatten (leaf kind sign low high width)) r (now (out .exit)) ⌝ }
 {
     write(
         out,
@@ -100,16 +99,15 @@ pub fn write_leaf(
     )
 }
 
-// The head of an array of so many values, which stand or will stand behind it.
-pub fn write_array(out: &mut [u32], at: usize, count: u32) -> Extent
-    ensures { λ r. ⌜ Wrote (leb (at + 6) (length (now (out .entry)))) (now (out .entry)) at (headWords 13 count) 6 r (now (out .exit)) ⌝ }
+fn write_head(out: &mut [u32], at: usize, kind: u32, count: u32) -> Extent
+    ensures { λ r. ⌜ WroteNode (now (out .entry)) at (headWords kind count) r (now (out .exit)) ⌝ }
 {
     write(
         out,
         at,
         Node {
             name: 0,
-            kind: 13,
+            kind,
             sign: 0,
             low: count,
             high: 0,
@@ -118,22 +116,18 @@ pub fn write_array(out: &mut [u32], at: usize, count: u32) -> Extent
     )
 }
 
+// The head of an array of so many values, which stand or will stand behind it.
+pub fn write_array(out: &mut [u32], at: usize, count: u32) -> Extent
+    ensures { λ r. ⌜ WroteNode (now (out .entry)) at (headWords 13 count) r (now (out .exit)) ⌝ }
+{
+    write_head(out, at, 13, count)
+}
+
 // The head of a structure of so many fields, which stand or will stand behind it.
 pub fn write_structure(out: &mut [u32], at: usize, count: u32) -> Extent
-    ensures { λ r. ⌜ Wrote (leb (at + 6) (length (now (out .entry)))) (now (out .entry)) at (headWords 14 count) 6 r (now (out .exit)) ⌝ }
+    ensures { λ r. ⌜ WroteNode (now (out .entry)) at (headWords 14 count) r (now (out .exit)) ⌝ }
 {
-    write(
-        out,
-        at,
-        Node {
-            name: 0,
-            kind: 14,
-            sign: 0,
-            low: count,
-            high: 0,
-            width: 0,
-        },
-    )
+    write_head(out, at, 14, count)
 }
 
 // Names the node at a place, and answers whether there is one.

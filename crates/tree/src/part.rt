@@ -1,6 +1,5 @@
 // What kind of value a tree is, and its parts.
 ghost use mathlib.Core.Path.{_≡_};
-ghost use Prim.Native.Nat.{_+_};
 ghost use Rattle.tree.specs.Part.{valueOf, valueAt, seek, findOf, nthOf, partOf};
 use crate::extent::Extent;
 use crate::extent::NODE_WORDS;

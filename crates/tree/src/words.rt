@@ -5,7 +5,7 @@ ghost use Prim.Native.Nat.{_+_, _*_, _≤_};
 ghost use lib.Dec.{leb};
 ghost use lib.ListN.{length, take, drop};
 ghost use lib.Seq.{paste};
-ghost use Rattle.tree.specs.Words.{Wrote, Copyable, apart, movable, Moves, rept};
+ghost use Rattle.tree.specs.Words.{WroteCopy, WroteShift, Copyable, apart, movable, Moves, rept};
 use crate::extent::Extent;
 use crate::extent::NODE_WORDS;
 
@@ -42,7 +42,7 @@ fn copy_words(from: &[u32], a: usize, count: usize, out: &mut [u32], at: usize)
 
 // Copies so many words to another slice, and answers where they end.
 pub fn copy(from: &[u32], a: usize, count: usize, out: &mut [u32], at: usize) -> Extent
-    ensures { λ r. ⌜ Wrote (leb (a + count) (length (now (from .entry))) && leb (at + count) (length (now (out .entry)))) (now (out .entry)) at (drop a (now (from .entry))) count r (now (out .exit)) ⌝ }
+    ensures { λ r. ⌜ WroteCopy (now (from .entry)) a count (now (out .entry)) at r (now (out .exit)) ⌝ }
 {
     if both_fit(from.len(), a, out.len(), at, count) {
         copy_words(from, a, count, out, at);
@@ -86,7 +86,7 @@ pub(crate) fn move_words(out: &mut [u32], from: usize, count: usize, to: usize)
 
 // Copies so many words to the front or past their end, and answers where they end.
 pub fn shift(out: &mut [u32], from: usize, count: usize, to: usize) -> Extent
-    ensures { λ r. ⌜ Wrote (movable (length (now (out .entry))) from count to) (now (out .entry)) to (drop from (now (out .entry))) count r (now (out .exit)) ⌝ }
+    ensures { λ r. ⌜ WroteShift (now (out .entry)) from count to r (now (out .exit)) ⌝ }
 {
     if is_movable(out.len(), from, count, to) {
         move_words(out, from, count, to);

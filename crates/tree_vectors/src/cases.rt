@@ -63,6 +63,15 @@ fn limits(function: u32, x: Case) -> bool {
         11 => lines::truth(limit::may_form(wide(x.a))),
         12 => lines::truth(limit::may_gather(wide(x.a), wide(x.b))),
         13 => lines::truth(limit::may_repeat(wide(x.a), wide(x.b))),
+        14 => lines::added(limit::may_add(wide(x.a), wide(x.b), wide(x.c), wide(x.d), wide(x.e))),
+        15 => lines::added(limit::may_copy(
+            wide(x.a),
+            wide(x.b),
+            wide(x.c),
+            wide(x.d),
+            wide(x.e),
+            wide(x.f),
+        )),
         _ => false,
     }
 }

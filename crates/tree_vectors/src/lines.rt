@@ -1,6 +1,7 @@
 // A case's answer on its line.
 use tree::extent::Extent;
 use tree::grow::Grown;
+use tree::limit::Added;
 use tree::node::Node;
 use tree::node::NodeAt;
 use tree::part::Found;
@@ -41,6 +42,14 @@ pub fn grown(x: Grown) -> bool {
         }
         Grown::TooLarge => io::write_all(1, b"large "),
         Grown::Not => io::write_all(1, b"not "),
+    }
+}
+
+pub fn added(x: Added) -> bool {
+    match x {
+        Added::Fits => io::write_all(1, b"fits "),
+        Added::TooMany => io::write_all(1, b"many "),
+        Added::TooLarge => io::write_all(1, b"large "),
     }
 }
 

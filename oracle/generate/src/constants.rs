@@ -6,7 +6,7 @@ use files::layout::*;
 
 /// Bits of an f64 worth having: zeros, ones, the least and greatest, the
 /// infinities, and values that are no number.
-const REALS: [u64; 14] = [
+pub const REALS: [u64; 14] = [
     0x0000_0000_0000_0000,
     0x8000_0000_0000_0000,
     0x3FF0_0000_0000_0000,

@@ -4,7 +4,9 @@
 mod constants;
 mod draft;
 mod families;
+pub mod lines;
 mod order;
+pub mod pairs;
 pub mod random;
 mod shapes;
 mod types;

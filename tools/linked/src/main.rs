@@ -4,6 +4,8 @@
 //! time of both on the largest file, every section at its limit. Fails on any
 //! difference.
 
+mod random_files;
+
 use std::env;
 use std::process::exit;
 use std::time::Instant;
@@ -11,6 +13,7 @@ use std::time::Instant;
 use files::verdict::verdict;
 use generate::damage::damage;
 use generate::{file, Size};
+use random_files::random_file;
 
 extern "C" {
     /// A slice passes as a pointer and a length (crates/start_values).
@@ -20,30 +23,6 @@ extern "C" {
 fn accepted(words: &[u32]) -> u32 {
     // The library reads the slice's words and keeps nothing.
     unsafe { wirkesu_accept(words.as_ptr(), words.len()) }
-}
-
-/// A few words, most of them small, so that some are counts that fit.
-fn random_words(seed: u64, number: u64) -> Vec<u32> {
-    let mut state = seed
-        .wrapping_mul(0x9e37_79b9_7f4a_7c15)
-        .wrapping_add(number);
-    let mut next = || {
-        state ^= state << 13;
-        state ^= state >> 7;
-        state ^= state << 17;
-        state
-    };
-    for _ in 0..4 {
-        next();
-    }
-    let length = next() % 64;
-    (0..length)
-        .map(|_| {
-            let word = next();
-            let mask = [1, 3, 15, 255, u32::MAX][(word >> 32) as usize % 5];
-            word as u32 & mask
-        })
-        .collect()
 }
 
 /// Counts the verdict, or ends the run where the two differ.
@@ -111,7 +90,7 @@ fn main() {
             number,
             &damage(seed, number, &words),
         );
-        compare(&mut random, "random", number, &random_words(seed, number));
+        compare(&mut random, "random", number, &random_file(seed, number));
     }
     report("generated", &good);
     report("damaged", &damaged);

@@ -3,9 +3,6 @@ use lib.Seq.{length-take-le}
 use borrow.Author.Needs.{needs}
 use Rattle.accept_vectors.proofs.refusal.Statement.{statement}
 use Rattle.accept_vectors.proofs.refusal.Tie as tie
-use Rattle.accept_vectors.proofs.refusal.Reads as reads
-use Rattle.accept_vectors.proofs.refusal.Lts as lts
-use Rattle.records.proofs.accept.accept.Reads as accept-reads
 
 returns : tie.Need-returns
 returns c = search needs

@@ -4,14 +4,6 @@ use lib.ListN.{length}
 use borrow.Author.Needs.{needs}
 use Rattle.accept_vectors.proofs.replay_all.Statement.{statement}
 use Rattle.accept_vectors.proofs.replay_all.Tie as tie
-use Rattle.accept_vectors.proofs.replay_all.Reads as reads
-use Rattle.accept_vectors.proofs.replay_all.Lts as lts
-use Rattle.accept_vectors.proofs.judged.Reads as judged-reads
-use Rattle.accept_vectors.proofs.newline.Reads as newline-reads
-use Rattle.accept_vectors.proofs.next.Reads as next-reads
-use Rattle.accept_vectors.proofs.replay.Reads as replay-reads
-use Rattle.io.proofs.print_decimal.Reads as print-decimal-reads
-use Rattle.std.proofs.num.wrapping_add_u64.Reads as wrapping-add-u64-reads
 
 abbrev Inv-loop : tie.InvT-loop
 Inv-loop words₀ right₀ k₀ words right k = (k ≤ 100000) × (length words ≡ length words₀)
@@ -40,11 +32,8 @@ loop-less c = search needs
 loop-again : tie.Need-loop-again Inv-loop μ-loop
 loop-again c = search needs
 
-print-decimal-requires : tie.Need-print-decimal-requires Inv-loop μ-loop
-print-decimal-requires c κs = search needs
-
-newline-requires : tie.Need-newline-requires Inv-loop μ-loop
-newline-requires c κs = search needs
+print-line-requires : tie.Need-print-line-requires Inv-loop μ-loop
+print-line-requires c κs = search needs
 
 same-length : tie.Need-same-length Inv-loop μ-loop
 same-length c = search needs
@@ -65,7 +54,6 @@ replay-all-spec =
     next-requires
     loop-less
     loop-again
-    print-decimal-requires
-    newline-requires
+    print-line-requires
     same-length
     returns)

@@ -2,9 +2,6 @@ use borrow.Author.Needs.{needs}
 use Rattle.start_values.proofs.Numbers.{numbers}
 use Rattle.start_values.proofs.wirkesu_accept.Statement.{statement}
 use Rattle.start_values.proofs.wirkesu_accept.Tie as tie
-use Rattle.start_values.proofs.wirkesu_accept.Reads as reads
-use Rattle.start_values.proofs.wirkesu_accept.Lts as lts
-use Rattle.records.proofs.accept.accept.Reads as accept-reads
 
 accept-requires : tie.Need-accept-requires
 accept-requires c κs = search needs

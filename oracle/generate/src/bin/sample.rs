@@ -5,6 +5,7 @@
 
 use files::layout::*;
 use files::{frames, text};
+use generate::lines::{read_answers, Answer};
 use std::collections::HashMap;
 use std::fs;
 use std::path::Path;
@@ -18,12 +19,6 @@ const OF_EACH_FAMILY: u32 = 16;
 /// file near that limit needn't be document 01's.
 const MOST_NODES: usize = 600;
 const MOST_SHAPE_NODES: u64 = 1000;
-
-/// The oracle's answer to one question.
-struct Answer {
-    head: Vec<String>,
-    nodes: Vec<[u32; 6]>,
-}
 
 fn main() -> ExitCode {
     match run(&std::env::args().skip(1).collect::<Vec<_>>()) {
@@ -71,38 +66,6 @@ fn read_files(path: &str) -> Result<Vec<Vec<u32>>, String> {
         files.push(words);
     }
     Ok(files)
-}
-
-/// The answers to each file; none where the oracle gave the file up.
-fn read_answers(path: &str) -> Result<Vec<Vec<Answer>>, String> {
-    let lines = fs::read_to_string(path).map_err(|error| format!("{path}: {error}"))?;
-    let mut files: Vec<Vec<Answer>> = Vec::new();
-    for line in lines.lines() {
-        let parts: Vec<String> = line.split_whitespace().map(str::to_string).collect();
-        let wrong = || format!("{path}: {line} is not a line of the oracle");
-        if parts.first().is_some_and(|part| part == "file") {
-            files.push(Vec::new());
-            continue;
-        }
-        let answers = files.last_mut().ok_or_else(wrong)?;
-        match parts.first().map_or("", String::as_str) {
-            "type" | "var" | "done" => answers.push(Answer {
-                head: parts,
-                nodes: Vec::new(),
-            }),
-            "huge" | "bad" | "skip" => answers.clear(),
-            _ => {
-                let node = node(&parts).ok_or_else(wrong)?;
-                answers.last_mut().ok_or_else(wrong)?.nodes.push(node);
-            }
-        }
-    }
-    Ok(files)
-}
-
-fn node(parts: &[String]) -> Option<[u32; 6]> {
-    let words: Option<Vec<u32>> = parts.iter().map(|part| part.parse().ok()).collect();
-    words?.try_into().ok()
 }
 
 /// Whether a file may be stored.

@@ -1,13 +1,9 @@
 use mathlib.Core.Path.{_≡_}
 use Prim.Native.Nat.{_≤_, _-_}
-use lib.ListN.{length, length-set}
-use native.Mathlib.Omega.{arith}
+use lib.ListN.{length}
 use borrow.Author.Needs.{needs}
-use Rattle.accept_vectors.proofs.read_words.Statement.{statement}
-use Rattle.accept_vectors.proofs.read_words.Tie as tie
-use Rattle.accept_vectors.proofs.read_words.Reads as reads
-use Rattle.accept_vectors.proofs.read_words.Lts as lts
-use Rattle.accept_vectors.proofs.read_word.Reads as read-word-reads
+use Rattle.vector_io.proofs.read_words.Statement.{statement}
+use Rattle.vector_io.proofs.read_words.Tie as tie
 
 abbrev Inv-loop : tie.InvT-loop
 Inv-loop words₀ count i₀ words i = (count ≤ length words) × (i ≤ count) × (length words ≡ length words₀)

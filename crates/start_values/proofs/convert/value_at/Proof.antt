@@ -1,0 +1,15 @@
+-- `convert::value_at` meets its contract. Assumes nothing.
+use borrow.Author.Needs.{needs}
+use Rattle.start_values.proofs.convert.Laws.{conversions}
+use Rattle.start_values.proofs.convert.value_at.Statement.{statement}
+use Rattle.start_values.proofs.convert.value_at.Tie as tie
+
+pub value-at-spec : {M : Type 1} → statement M
+value-at-spec =
+    tie.close
+    (tie.spec
+    (λ c κs. search needs)
+    (λ c κs. search needs)
+    (λ c κs. search needs)
+    (λ c κs. search needs)
+    (λ c. search conversions))

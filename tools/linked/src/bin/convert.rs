@@ -1,0 +1,195 @@
+//! `convert SEED COUNT`: for the directed pairs of shape and constant and for
+//! random ones, COUNT in all or somewhat more, what the proved static library
+//! answers and leaves in the lent words, against the Rust's value of that
+//! pair; then numbers that aren't there, outs that are too short and refused
+//! files, against document 01. Fails on any difference.
+
+use std::env;
+use std::process::exit;
+
+use files::verdict::verdict;
+use generate::damage::damage;
+use generate::pairs::Pairs;
+use generate::random::Random;
+use oracle::outcome::{outcome, Outcome};
+
+extern "C" {
+    /// A slice passes as a pointer and a length (crates/start_values).
+    fn wirkesu_convert(
+        file: *const u32,
+        length: usize,
+        shape: u32,
+        constant: u32,
+        out: *mut u32,
+        out_length: usize,
+    ) -> u32;
+}
+
+/// What stands in a lent slice before a call.
+const LENT: [u32; 9] = [
+    0xA5A5_A5A5,
+    u32::MAX,
+    7,
+    0x8000_0000,
+    0xFFFF,
+    0x0123_4567,
+    0xDEAD_BEEF,
+    3,
+    0x7FFF_FFFF,
+];
+
+/// A node has so many words.
+const NODE_WORDS: usize = 6;
+
+/// Document 01's refusals of a number that isn't there and of a short slice.
+const NOT_THERE: u32 = 7;
+const SHORT: u32 = 10;
+
+/// A constant's value at a place, or none.
+type Value = Option<[u32; NODE_WORDS]>;
+
+/// What was compared.
+#[derive(Default)]
+struct Counts {
+    /// For each kind of shape, pairs with a value and pairs with none.
+    pairs: [[u64; 2]; 17],
+    /// Outs too short: for a value, and where there is none.
+    short: [u64; 2],
+    /// Refusals 1 to 7.
+    refused: [u64; 8],
+}
+
+impl Counts {
+    fn pairs(&self) -> u64 {
+        self.pairs.iter().flatten().sum()
+    }
+
+    fn report(&self) {
+        println!("{} pairs: by kind of shape, values and none", self.pairs());
+        for (kind, [values, none]) in self.pairs.iter().enumerate() {
+            println!("{kind}: {values}, {none}");
+        }
+        let [values, none] = self.short;
+        println!("short outs: {values} with a value, {none} with none");
+        println!("refusals 1 to 7: {:?}", &self.refused[1..]);
+    }
+}
+
+/// Calls the library with an out of `length` words, and ends the run unless
+/// it answers `answer` and leaves `node` at the front of out.
+fn compare(file: &[u32], shape: u32, constant: u32, length: usize, answer: u32, node: Value) {
+    let mut expected = LENT;
+    if let Some(node) = node {
+        expected[..NODE_WORDS].copy_from_slice(&node);
+    }
+    let mut out = LENT;
+    let lent = &mut out[..length];
+    // The library reads the file's words, writes words of out, and keeps nothing.
+    let answered = unsafe {
+        wirkesu_convert(
+            file.as_ptr(),
+            file.len(),
+            shape,
+            constant,
+            lent.as_mut_ptr(),
+            lent.len(),
+        )
+    };
+    if answered != answer || out != expected {
+        eprintln!("shape {shape}, constant {constant}, out of {length}: {answered} {out:?}");
+        eprintln!("and not {answer} {expected:?}; the file: {file:?}");
+        exit(1);
+    }
+}
+
+/// The Rust's value of each pair.
+fn values(pairs: &Pairs) -> Vec<Value> {
+    let mut values = Vec::new();
+    for question in pairs.questions() {
+        let Outcome::Answered(answers) = outcome(&question) else {
+            eprintln!("the Rust does not answer {question:?}");
+            exit(1);
+        };
+        for tree in answers.variables {
+            values.push(tree.map(|nodes| {
+                assert_eq!(nodes.len(), 1, "a scalar is one node");
+                nodes[0]
+            }));
+        }
+    }
+    values
+}
+
+/// Every pair with room for its node, some of them with too little besides.
+fn compare_pairs(counts: &mut Counts, random: &mut Random, pairs: &Pairs) {
+    let file = pairs.words();
+    let values = values(pairs);
+    assert_eq!(values.len(), pairs.all().len(), "a value for each pair");
+    for ((shape, constant), value) in pairs.all().into_iter().zip(values) {
+        let kind = pairs.shape(shape)[0] as usize;
+        let none = usize::from(value.is_none());
+        let length = random.between(NODE_WORDS as u32, LENT.len() as u32) as usize;
+        compare(&file, shape, constant, length, none as u32, value);
+        counts.pairs[kind][none] += 1;
+        if random.percent(10) {
+            let length = random.below(NODE_WORDS as u32) as usize;
+            let answer = [100 + SHORT, 1][none];
+            compare(&file, shape, constant, length, answer, None);
+            counts.short[none] += 1;
+        }
+    }
+}
+
+/// Numbers past the shapes or past the constants, in outs of any length.
+fn compare_numbers(counts: &mut Counts, random: &mut Random, pairs: &Pairs) {
+    let file = pairs.words();
+    let (shapes, constants) = (pairs.shapes(), pairs.constants());
+    for _ in 0..8 {
+        let past = random.pick(&[0, 1, 2, 1000, u32::MAX - shapes - constants]);
+        let (shape, constant) = match random.below(3) {
+            0 => (shapes + past, random.below(constants)),
+            1 => (random.below(shapes), constants + past),
+            _ => (shapes + past, constants + past),
+        };
+        let length = random.below(LENT.len() as u32 + 1) as usize;
+        compare(&file, shape, constant, length, 100 + NOT_THERE, None);
+        counts.refused[NOT_THERE as usize] += 1;
+    }
+}
+
+/// Damaged copies of the file that are refused, with any numbers.
+fn compare_damaged(counts: &mut Counts, random: &mut Random, number: u64, pairs: &Pairs) {
+    for copy in 0..8 {
+        let file = damage(random.word(), number + copy, &pairs.words());
+        let refusal = verdict(&file);
+        if refusal == 0 {
+            continue;
+        }
+        let shape = random.below(pairs.shapes() + 2);
+        let constant = random.below(pairs.constants() + 2);
+        let length = random.below(LENT.len() as u32 + 1) as usize;
+        compare(&file, shape, constant, length, 100 + refusal, None);
+        counts.refused[refusal as usize] += 1;
+    }
+}
+
+fn main() {
+    let arguments: Vec<u64> = env::args().skip(1).filter_map(|a| a.parse().ok()).collect();
+    let [seed, count] = arguments[..] else {
+        eprintln!("usage: convert SEED COUNT");
+        exit(2);
+    };
+    let mut random = Random::new(&[seed]);
+    let mut counts = Counts::default();
+    let directed = Pairs::directed().into_iter();
+    let drawn = (0..).map(|number| Pairs::random(seed, number));
+    for (number, pairs) in (0..).zip(directed.chain(drawn)) {
+        if counts.pairs() >= count {
+            break;
+        }
+        compare_pairs(&mut counts, &mut random, &pairs);
+        compare_numbers(&mut counts, &mut random, &pairs);
+        compare_damaged(&mut counts, &mut random, number, &pairs);
+    }
+    counts.report();
+}
