@@ -21,10 +21,10 @@ use Rattle.definition.specs.Base.{pick, choose}
 use Rattle.definition.specs.Layout.{count, shapes, types, variables, entries}
 use Rattle.definition.specs.Accept.{need, verdict}
 use Rattle.definition.specs.Tree.{nodes, flatten}
-use Rattle.definition.specs.Ask.{Result, ok, none, large, Outcome}
+use Rattle.definition.specs.Ask.{ok, none, large, Outcome}
 use Rattle.definition.specs.Resolve.{typeOutcome, variableOutcome}
 use Rattle.definition.specs.Complete.{Completed, completed, left, completion}
-use Rattle.definition.specs.Uses.{Ranking, ranksOf, rankAt}
+use Rattle.definition.specs.Uses.{ranksOf, rankAt}
 use Rattle.definition.specs.Sheet.{onRanking, sheetWith, checkAnswer}
 use Rattle.definition.specs.Depth.{levels}
 

@@ -1,14 +1,14 @@
 -- A variable's initializer, completed with the value that it starts with (`complete` in value.rs, then `retyped`, as `fold_var_decl` joins them).
 use mathlib.Core.Bool.{Bool, _&&_, _||_}
 use mathlib.Core.List.{List, [], _∷_}
-use Prim.Native.Nat.{ℕ, zero, suc}
+use Prim.Native.Nat.{ℕ}
 use lib.Dec.{eqb, leb}
 use lib.ListN.{getD}
-use Rattle.definition.specs.Base.{pick, choose, onLink}
+use Rattle.definition.specs.Base.{pick, onLink}
 use Rattle.definition.specs.Layout.{word, shapes, variables, initializers, expressions}
 use Rattle.definition.specs.Records.{typeShape, referencedType, initializerKind}
-use Rattle.definition.specs.Tree.{Node, Tree, Trees, node, tnil, tcons, head, parts}
-use Rattle.definition.specs.Ask.{Result, ok, none, large, Outcome}
+use Rattle.definition.specs.Tree.{Node, Tree, Trees, node, tnil, tcons, head}
+use Rattle.definition.specs.Ask.{ok, none, large, Outcome}
 
 -- a completed initializer is its kind and the tree in its value slot
 pub data Completed : Type 0 where

@@ -1,6 +1,6 @@
 -- What a place starts with (resolver.rs). The one rule: the initializer written for the place, else the default that its type declares, else the type's implicit
 -- default, recursively for every field and element. Each function has the Rust's name and order; refusal 8 stands where a tree is formed.
-use mathlib.Core.Bool.{Bool, true, false, not, _&&_, _||_}
+use mathlib.Core.Bool.{Bool, _||_}
 use mathlib.Core.List.{List, [], _∷_}
 use Prim.Native.Nat.{ℕ, zero, suc, _+_, _*_}
 use lib.Dec.{eqb, leb}
@@ -8,17 +8,18 @@ use Rattle.definition.specs.declared.records.Declaration.{Declaration}
 use Rattle.definition.specs.declared.records.Declaration.the-variants as decl
 use Rattle.definition.specs.declared.records.Initializer.{Initializer}
 use Rattle.definition.specs.declared.records.Initializer.the-variants as init
+use Rattle.definition.specs.declared.records.Place.{Place}
 use Rattle.definition.specs.Base.{pick, choose, onLink, inline}
-use Rattle.definition.specs.Layout.{word, count, shapes, shapeFields, types, elements, variables, entries, expressions}
+use Rattle.definition.specs.Layout.{word, count, shapes, elements, variables, entries, expressions}
 use Rattle.definition.specs.Records.{aliasBase, declarationAt, namedType, initializerAt, constantAt}
 use Rattle.definition.specs.Accept.{elementsOf}
 use Rattle.definition.specs.Syntax.{Init, Inits, inil, icons, initsAt}
 use Rattle.definition.specs.Tree.{Tree, Trees, tnil, tcons, head, parts, many, nodesIn, one, times, rest, named, arrayTree, structureTree, nullTree, referenceTree, mostNodes}
-use Rattle.definition.specs.Ask.{Result, ok, none, large, Outcome, Ask, done, ask, bind, _>>=_, give, nothing, typeDefault, formed, gathered, andMore}
+use Rattle.definition.specs.Ask.{Result, ok, none, large, Outcome, Ask, done, bind, _>>=_, give, nothing, typeDefault, formed, gathered, andMore}
 use Rattle.definition.specs.Iec.{implicitScalar, filled, assigned}
 use Rattle.definition.specs.Scalar.{constantValue, enumeratedValue, expressionValue, emptyString}
 use Rattle.definition.specs.Shapes.{onShape, onArray}
-use Rattle.definition.specs.Places.{Place, placeOf, elementPlace, leafPlace, fieldPlace, namesIn, blockFieldNames, variablePlace}
+use Rattle.definition.specs.Places.{placeOf, elementPlace, leafPlace, fieldPlace, namesIn, blockFieldNames, variablePlace}
 
 -- how a place starts
 abbrev pub Starts : Type 0
@@ -107,7 +108,7 @@ implicitBy f default place =
 
 -- a place starts at its type's default, or at the implicit default of its shape (`default_of`)
 unfoldable pub defaultBy : Starts → Starts
-defaultBy implicit place = ifStated (place .type) (λ u. implicit place) typeDefault
+defaultBy implicit place = ifStated (place .id) (λ u. implicit place) typeDefault
 
 -- the places inside have lower shapes, so that there are at most as many levels as shapes, and one for a string that has none
 unfoldable pub implicitUpTo : List ℕ → ℕ → Starts

@@ -2,7 +2,6 @@
 use mathlib.Core.List.{List}
 use Prim.Native.Nat.{ℕ, zero, suc, _+_, max}
 use Rattle.definition.specs.declared.records.Shape.{Shape}
-use Rattle.definition.specs.declared.records.Shape.the-variants as shape
 use Rattle.definition.specs.declared.records.Entry.{Entry}
 use Rattle.definition.specs.declared.records.Entry.the-variants as entry
 use Rattle.definition.specs.Base.{onLink}

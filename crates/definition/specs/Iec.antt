@@ -12,7 +12,7 @@ use Rattle.definition.specs.Base.{pick}
 use Rattle.definition.specs.Layout.{word, members}
 use Rattle.definition.specs.Records.{constantOf, constantAt}
 use Rattle.definition.specs.Tree.{Tree, Trees, many, join, rest, replaced, named, constantTree, enumeratedTree}
-use Rattle.definition.specs.Ask.{Result, ok, none, Outcome}
+use Rattle.definition.specs.Ask.{ok, none, Outcome}
 
 -- the number of a sign and a size
 unfoldable pub number : Bool → ℕ → ℤ

@@ -2,7 +2,7 @@
 use mathlib.Core.List.{List, [], _∷_}
 use Prim.Native.Nat.{ℕ}
 use Rattle.definition.specs.Tree.{nodes, flatten}
-use Rattle.definition.specs.Ask.{Result, ok, none, large, Outcome}
+use Rattle.definition.specs.Ask.{ok, none, large, Outcome}
 use Rattle.definition.specs.Resolve.{typeOutcome, variableOutcome}
 use Rattle.definition.specs.Complete.{Completed, completed, left, completion}
 

@@ -5,6 +5,7 @@ use Prim.Native.Nat.{ℕ, zero, suc, _+_}
 use lib.Dec.{eqb, leb}
 use Rattle.definition.specs.declared.records.Shape.{Shape}
 use Rattle.definition.specs.declared.records.Shape.the-variants as shape
+use Rattle.definition.specs.declared.records.Place.{Place}
 use Rattle.definition.specs.Base.{pick, onLink, orElse, inline}
 use Rattle.definition.specs.Layout.{word, count, shapes, shapeFields, types, blockFields, elements, variables, initializers}
 use Rattle.definition.specs.Records.{shapeAt, typeShape, aliasBase, elementType, declarationKind, initializerKind, namedType}
@@ -12,28 +13,23 @@ use Rattle.definition.specs.Accept.{sameShape}
 use Rattle.definition.specs.Ask.{Result, ok, none}
 use Rattle.definition.specs.Shapes.{onShape, onArray}
 
-pub record Place : Type 0 where
-  pub shape : Shape
-  pub type : ℕ
-  pub element : ℕ
-
 -- a value of a shape that has no type (`Place::of`)
 unfoldable pub bare : Shape → Place
-bare s = record { shape = s; type = 0; element = 0 }
+bare s = record { shape = s; id = 0; element = 0 }
 
 -- a value of the type t (`place_of`)
 unfoldable pub placeOf : List ℕ → ℕ → Place
-placeOf f t = record { shape = shapeAt f (typeShape f t); type = suc t; element = elementType f t }
+placeOf f t = record { shape = shapeAt f (typeShape f t); id = suc t; element = elementType f t }
 
 -- the type is kept only where it has that very shape (`typed_place`)
 unfoldable pub typedPlace : List ℕ → ℕ → ℕ → ℕ → Place
 typedPlace f s type element =
     let own : ℕ = onLink type 0 (λ t. pick (sameShape f (typeShape f t) s) type 0) in
-    record { shape = shapeAt f s; type = own; element = orElse element (onLink own 0 (elementType f)) }
+    record { shape = shapeAt f s; id = own; element = orElse element (onLink own 0 (elementType f)) }
 
 -- an element, of the shape s, of an array (`element_place`)
 unfoldable pub elementPlace : List ℕ → Place → ℕ → Place
-elementPlace f place s = typedPlace f s (orElse (place .element) (onLink (place .type) 0 (elementType f))) 0
+elementPlace f place s = typedPlace f s (orElse (place .element) (onLink (place .id) 0 (elementType f))) 0
 
 -- what an array of arrays is filled with: an element of its innermost arrays (the loop in `array`)
 unfoldable pub innermost : List ℕ → ℕ → Place → Place
@@ -97,7 +93,7 @@ declaredElement f i = pick (eqb (namedType f i) inline) (word f initializers i 2
 
 unfoldable pub structureFieldPlace : List ℕ → Place → ℕ → ℕ → Place
 structureFieldPlace f place name s =
-    onLink (onLink (place .type) 0 (fieldDeclaration f name)) (bare (shapeAt f s)) (λ i. typedPlace f s (declaredType f i) (declaredElement f i))
+    onLink (onLink (place .id) 0 (fieldDeclaration f name)) (bare (shapeAt f s)) (λ i. typedPlace f s (declaredType f i) (declaredElement f i))
 
 -- a field of a structure or a function block, by its name (`field_place`)
 unfoldable pub fieldPlace : List ℕ → Place → ℕ → Result Place
@@ -105,7 +101,7 @@ fieldPlace f place name =
     onShape (place .shape) (λ a b. none) (λ a b. none)
     (λ first many. onLink (firstNamed f shapeFields name first many) none (λ k. ok (structureFieldPlace f place name (word f shapeFields k 1))))
     (λ s a b. none)
-    (λ u. onLink (place .type) none (λ t. onLink (blockFieldType f t name) none (λ d. ok (placeOf f d))))
+    (λ u. onLink (place .id) none (λ t. onLink (blockFieldType f t name) none (λ d. ok (placeOf f d))))
     (λ u. none) (λ u. none)
 
 -- the names of a block's fields but for in-outs, and of a structure's (`field_names`)
@@ -120,7 +116,7 @@ blockNames f first (suc k) =
     pick (eqb (word f blockFields first 2) 2) more (word f blockFields first 0 ∷ more)
 
 unfoldable pub blockFieldNames : List ℕ → Place → Result (List ℕ)
-blockFieldNames f place = onLink (place .type) none (λ t. onLink (recordedBlock f t) none (λ b. ok (blockNames f (word f types b 9) (word f types b 10))))
+blockFieldNames f place = onLink (place .id) none (λ t. onLink (recordedBlock f t) none (λ b. ok (blockNames f (word f types b 9) (word f types b 10))))
 
 -- ---- a variable's place (`declaration_place`): a string's comes from its initializer, any other's from its type
 unfoldable pub stringPlace : List ℕ → ℕ → Result Place

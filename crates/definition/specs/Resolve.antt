@@ -6,7 +6,7 @@ use lib.ListN.{getD, set, replicate}
 use Rattle.definition.specs.Base.{pick}
 use Rattle.definition.specs.Layout.{count, types}
 use Rattle.definition.specs.Records.{declarationKind}
-use Rattle.definition.specs.Ask.{Result, none, Outcome, Ask, done, ask, typeDefault}
+use Rattle.definition.specs.Ask.{none, Outcome, Ask, done, ask, typeDefault}
 use Rattle.definition.specs.Defaults.{body, declaration}
 
 -- what is remembered of a type. One in progress is remembered as none, until its outcome is put over it.

@@ -11,7 +11,7 @@ use Rattle.definition.specs.Base.{pick, joined}
 use Rattle.definition.specs.Layout.{word, settings, members}
 use Rattle.definition.specs.Records.{constantOf, constantAt}
 use Rattle.definition.specs.Syntax.{Expr}
-use Rattle.definition.specs.Tree.{Tree, constantTree, enumeratedTree, nullTree, expressionTree}
+use Rattle.definition.specs.Tree.{constantTree, enumeratedTree, nullTree, expressionTree}
 use Rattle.definition.specs.Ask.{Result, ok, none, large, Outcome}
 use Rattle.definition.specs.Iec.{number, between, inRange}
 use Rattle.definition.specs.Ieee.{rounded}

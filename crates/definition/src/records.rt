@@ -132,3 +132,10 @@ pub struct Constant {
     pub high: u32,
     pub width: u32,
 }
+
+// A variable, a field or an element: what it is, and links to its type and its element type where it has them (`Place` of resolver.rs).
+pub struct Place {
+    pub shape: Shape,
+    pub id: u32,
+    pub element: u32,
+}

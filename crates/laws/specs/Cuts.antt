@@ -1,19 +1,14 @@
 -- How a sheet's words are cut into lines, and back. Assumes nothing.
 use mathlib.Core.Path.{_≡_, refl, ap, sym, _∙_}
 use mathlib.Core.Bool.{Bool, true, false, _&&_}
-use mathlib.Core.List.{List, [], _∷_, _++_, append-assoc, append-nil}
-use Prim.Native.Nat.{ℕ, zero, suc, _+_, _*_, _<_, _≤_}
+use mathlib.Core.List.{List, [], _∷_, _++_, append-assoc}
+use Prim.Native.Nat.{ℕ, zero, suc, _+_, _*_, _<_}
 use native.Mathlib.Omega.{arith}
 use native.Mathlib.Nat.{add-zero}
 use lib.Dec.{eqb, leb}
-use lib.ListN.{length, getD, take, drop, take-append-drop, length-append}
-use lib.Seq.{take-at, drop-at}
-use borrow.Author.Tests.{eqb-true, le-leb, eq-eqb}
-use Rattle.definition.specs.Base.{pick, choose}
-use Rattle.definition.specs.Tree.{Tree, nodes, flatten}
-use Rattle.definition.specs.Ask.{Result, ok, none, large, Outcome}
-use Rattle.definition.specs.Complete.{Completed, completed, left}
-use Rattle.definition.specs.Lines.{outcomeWords, completedWords}
+use lib.ListN.{length, getD, take, drop, take-append-drop}
+use borrow.Author.Tests.{eqb-true}
+use Rattle.definition.specs.Base.{choose}
 use Rattle.definition.specs.Sheet.{linesFrom, areTrees, Cut, cut, broken, treeCut, emptyCut, typeCut, variableCut, completedCut, Section, section, unreadable, onCut, onSection, cutLines, readSection}
 
 -- the words of a cut, of lines, of a section

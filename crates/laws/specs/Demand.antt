@@ -2,7 +2,7 @@
 -- a table of outcomes meets every type's own equation exactly when it is the table that resolving gives (`table-only`, `table-solves`),
 -- and then every variable's outcome follows from it (`variable-from`). A sheet passes exactly when it is the fixed words of every line under such ranks
 -- (`passing`), and the writer's does, whose ranks are the lowest (`writer-passes`, `writer-lowest`). Assumes nothing.
-use mathlib.Core.Path.{_≡_, refl, ap, sym, _∙_}
+use mathlib.Core.Path.{_≡_, sym, _∙_}
 use mathlib.Core.Bool.{true}
 use mathlib.Core.Logic.{_↔_}
 use mathlib.Core.List.{List}
@@ -14,7 +14,7 @@ use Rattle.definition.specs.Defaults.{body, declaration}
 use Rattle.definition.specs.Resolve.{typeOutcome, variableOutcome}
 use Rattle.definition.specs.Peek.{look}
 use Rattle.definition.specs.Uses.{uses, rising, ranked, circle, ranksOf, rankAt}
-use Rattle.definition.specs.Sheet.{sheetWith, sheetWords, checkAnswer}
+use Rattle.definition.specs.Sheet.{sheetWords, checkAnswer}
 use Rattle.laws.specs.Asks.{Asks, OnOk}
 use Rattle.laws.specs.Peeking.{look-cong}
 use Rattle.laws.specs.Ranked.{Ranked}

@@ -6,7 +6,8 @@ use Rattle.definition.specs.Syntax.{Init, Inits, inil, icons, initsAt}
 use Rattle.definition.specs.Tree.{Tree, Trees, many, one, rest, structureTree}
 use Rattle.definition.specs.Ask.{Outcome, Ask, done, _>>=_, gathered}
 use Rattle.definition.specs.Iec.{assigned}
-use Rattle.definition.specs.Places.{Place, fieldPlace}
+use Rattle.definition.specs.declared.records.Place.{Place}
+use Rattle.definition.specs.Places.{fieldPlace}
 use Rattle.definition.specs.Defaults.{onFields, added, defaultOf, expand, expandAll, members, member, applied, arrayOf}
 use Rattle.laws.specs.Cases.{on-choose}
 use Rattle.laws.specs.Links.{Leads}

@@ -9,7 +9,7 @@ use Rattle.definition.specs.Accept.{verdict}
 use Rattle.definition.specs.Defaults.{body, declaration}
 use Rattle.definition.specs.Uses.{uses}
 use Rattle.laws.specs.Every.{Each, each-two}
-use Rattle.laws.specs.Links.{Leads, each-map, each-any, link-any}
+use Rattle.laws.specs.Links.{Leads, each-any, link-any}
 use Rattle.laws.specs.Values.{Small}
 use Rattle.laws.specs.Gathers.{Gives}
 use Rattle.laws.specs.Meaning.{gives-declaration, body-asks}

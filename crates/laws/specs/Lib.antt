@@ -28,6 +28,7 @@ pub mod Entries
 pub mod Meaning
 -- ---- accepted files
 pub mod Accepted
+pub mod Pointed
 pub mod Used
 pub mod Falling
 pub mod Completes

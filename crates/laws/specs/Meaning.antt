@@ -14,7 +14,8 @@ use Rattle.definition.specs.Records.{aliasBase, declarationAt, namedType, initi
 use Rattle.definition.specs.Syntax.{Inits, initsAt}
 use Rattle.definition.specs.Tree.{nullTree, referenceTree, mostNodes}
 use Rattle.definition.specs.Ask.{ok, none, large, Outcome, Ask, done, _>>=_, give, nothing, typeDefault}
-use Rattle.definition.specs.Places.{Place, placeOf, fieldPlace, variablePlace}
+use Rattle.definition.specs.declared.records.Place.{Place}
+use Rattle.definition.specs.Places.{placeOf, fieldPlace, variablePlace}
 use Rattle.definition.specs.Defaults.{ifStated, implicit, defaultOf, applied, field, constantAs, enumeratedAs, referenceAs, initializerBy, initializer, declaration, nameDefault, specDefault, aliasDefaultBy, overBase, subrangeDefault, elementsFrom, isInstance, variableField, instanceFrom, bodyBy, body}
 use Rattle.definition.specs.Uses.{linked, namedUse, initializerUses, variableUses, declarationUses}
 use Rattle.laws.specs.Asks.{OnOk, asks-bind}

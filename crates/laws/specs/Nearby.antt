@@ -12,7 +12,8 @@ use Rattle.definition.specs.Layout.{word, count, shapes, shapeFields, types, bl
 use Rattle.definition.specs.Records.{shapeAt, typeShape, aliasBase, elementType, declarationKind, declarationOf, declarationAt, namedType, initializerKind, initializerOf, initializerAt}
 use Rattle.definition.specs.Accept.{sameShape}
 use Rattle.definition.specs.Ask.{none}
-use Rattle.definition.specs.Places.{Place, bare, placeOf, typedPlace, elementPlace, innermost, leafPlace, hasBlock, recordedUpTo, recordedBlock, firstNamed, blockFieldType, simpleTarget, aliasTarget, fieldDeclarationUpTo, declaredTypes, fieldDeclaration, declaredType, declaredElement, structureFieldPlace, fieldPlace, stringPlace, variablePlace}
+use Rattle.definition.specs.declared.records.Place.{Place}
+use Rattle.definition.specs.Places.{bare, placeOf, typedPlace, elementPlace, innermost, leafPlace, hasBlock, recordedUpTo, recordedBlock, firstNamed, blockFieldType, simpleTarget, aliasTarget, fieldDeclarationUpTo, declaredTypes, fieldDeclaration, declaredType, declaredElement, structureFieldPlace, fieldPlace, stringPlace, variablePlace}
 use Rattle.definition.specs.Uses.{linked, initializerUses, elementUses, blockFieldUses, declarationUses, blockUses}
 use Rattle.laws.specs.Asks.{OnOk}
 use Rattle.laws.specs.Cases.{either, on-pick, on-link, on-shape}
@@ -21,7 +22,7 @@ use Rattle.laws.specs.Links.{Link, each-apart, each-linked, link-to, lin
 
 -- the type of a place is an M, its element type a P
 pub record Placed (M P : ℕ → Type 0) (place : Place) : Type 0 where
-  pub type : Link M (place .type)
+  pub type : Link M (place .id)
   pub element : Link P (place .element)
 
 -- a place that may be looked into, and one whose type may be asked for too
@@ -88,7 +89,7 @@ module _ (f : List ℕ) (N P : ℕ → Type 0) (leads : Leads f N P) where
   near-link (suc t) h = leads .near t h
 
   pub below-near : (place : Place) → Below P place → Near N P place
-  below-near place b = record { type = near-link (place .type) (b .type); element = b .element }
+  below-near place b = record { type = near-link (place .id) (b .type); element = b .element }
 
   pub near-of : (t : ℕ) → N t → Near N P (placeOf f t)
   unfolding placeOf
@@ -114,8 +115,8 @@ module _ (f : List ℕ) (N P : ℕ → Type 0) (leads : Leads f N P) where
   pub below-element : (place : Place) (s : ℕ) → Near N P place → Below P (elementPlace f place s)
   unfolding elementPlace
   below-element place s h =
-      below-typed s (orElse (place .element) (onLink (place .type) 0 (elementType f))) 0
-      (link-or P (place .element) (onLink (place .type) 0 (elementType f)) (h .element) (element-of (place .type) (h .type))) tt
+      below-typed s (orElse (place .element) (onLink (place .id) 0 (elementType f))) 0
+      (link-or P (place .element) (onLink (place .id) 0 (elementType f)) (h .element) (element-of (place .id) (h .type))) tt
 
   near-innermost : (k : ℕ) (place : Place) → Near N P place → Near N P (innermost f k place)
   unfolding innermost
@@ -185,10 +186,10 @@ module _ (f : List ℕ) (N P : ℕ → Type 0) (leads : Leads f N P) where
   pub below-structure : (place : Place) (name s : ℕ) → Near N P place → Below P (structureFieldPlace f place name s)
   unfolding structureFieldPlace
   below-structure place name s h =
-      on-link (Below P) (onLink (place .type) 0 (fieldDeclaration f name)) _ _ (placed-bare P P (shapeAt f s))
+      on-link (Below P) (onLink (place .id) 0 (fieldDeclaration f name)) _ _ (placed-bare P P (shapeAt f s))
       (λ i e. let u : Each P (initializerUses f i) = link-to (λ i. Each P (initializerUses f i)) _ i e
-      (on-link (Link (λ i. Each P (initializerUses f i))) (place .type) 0 (fieldDeclaration f name) tt
-      (λ t q. declared-field name t (link-to N (place .type) t q (h .type)))) in
+      (on-link (Link (λ i. Each P (initializerUses f i))) (place .id) 0 (fieldDeclaration f name) tt
+      (λ t q. declared-field name t (link-to N (place .id) t q (h .type)))) in
       below-typed s (declaredType f i) (declaredElement f i) (declared-type P f i u) (declared-element P f i u))
 
   -- a field of a place that may be looked into may be asked for
@@ -199,9 +200,9 @@ module _ (f : List ℕ) (N P : ℕ → Type 0) (leads : Leads f N P) where
       (λ first many. on-link (OnOk (Below P)) (firstNamed f shapeFields name first many) none _ tt
       (λ k e. below-structure place name (word f shapeFields k 1) h))
       (λ s a b. tt)
-      (on-link (OnOk (Below P)) (place .type) none _ tt
+      (on-link (OnOk (Below P)) (place .id) none _ tt
       (λ t e. on-link (OnOk (Below P)) (blockFieldType f t name) none _ tt
-      (λ d q. below-of d (link-to P _ d q (block-field t name (link-to N (place .type) t e (h .type)))))))
+      (λ d q. below-of d (link-to P _ d q (block-field t name (link-to N (place .id) t e (h .type)))))))
       tt tt
 
   -- a variable's place is a string's own or that of its type

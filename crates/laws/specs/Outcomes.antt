@@ -10,7 +10,7 @@ use Rattle.definition.specs.Layout.{count, types}
 use Rattle.definition.specs.Records.{declarationKind}
 use Rattle.definition.specs.Ask.{Outcome, none, Ask, typeDefault}
 use Rattle.definition.specs.Defaults.{body, declaration}
-use Rattle.definition.specs.Resolve.{known, Memo, at, resolveAll, declaredBelow, remembered, answer, typeOutcome, variableOutcome}
+use Rattle.definition.specs.Resolve.{known, at, declaredBelow, remembered, answer, typeOutcome, variableOutcome}
 use Rattle.definition.specs.Peek.{look}
 use Rattle.laws.specs.Asks.{Asks}
 use Rattle.laws.specs.Resolving.{answerOf}

@@ -7,7 +7,8 @@ use Rattle.definition.specs.Accept.{elementsOf}
 use Rattle.definition.specs.Tree.{Trees, arrayTree, nullTree, mostNodes}
 use Rattle.definition.specs.Ask.{done, _>>=_, typeDefault}
 use Rattle.definition.specs.Iec.{implicitScalar, filled}
-use Rattle.definition.specs.Places.{Place, elementPlace, leafPlace, fieldPlace, namesIn, blockFieldNames}
+use Rattle.definition.specs.declared.records.Place.{Place}
+use Rattle.definition.specs.Places.{elementPlace, leafPlace, fieldPlace, namesIn, blockFieldNames}
 use Rattle.definition.specs.Defaults.{Starts, flat, elementDefaults, Fills, arrayBy, field, fieldsBy, structured, implicitBy, defaultBy, implicitUpTo, implicit, defaultOf}
 use Rattle.laws.specs.Cases.{on-stated, on-shape}
 use Rattle.laws.specs.Links.{link-to, Leads}
@@ -79,8 +80,8 @@ module _ (f : List ℕ) (N P : ℕ → Type 0) (leads : Leads f N P) where
   gives-defaultBy : (inner : Starts) → ((place : Place) → Near N P place → Gives P Small (inner place)) → Starting P (defaultBy inner)
   unfolding defaultBy
   gives-defaultBy inner k place b =
-      on-stated (Gives P Small) (place .type) (λ u. inner place) typeDefault (k place (below-near f N P leads place b))
-      (λ d e. gives-type P d (link-to P (place .type) d e (b .type)))
+      on-stated (Gives P Small) (place .id) (λ u. inner place) typeDefault (k place (below-near f N P leads place b))
+      (λ d e. gives-type P d (link-to P (place .id) d e (b .type)))
 
   gives-implicitUpTo : (k : ℕ) (place : Place) → Near N P place → Gives P Small (implicitUpTo f k place)
   unfolding implicitUpTo

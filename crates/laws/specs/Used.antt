@@ -6,7 +6,6 @@ use Prim.Native.Nat.{ℕ, zero, suc, _+_, _≤_, _<_}
 use native.Mathlib.Omega.{arith}
 use lib.Dec.{eqb}
 use borrow.Author.Tests.{eqb-true, ne-eqb}
-use Rattle.definition.specs.declared.records.Declaration.{Declaration}
 use Rattle.definition.specs.declared.records.Declaration.the-variants as decl
 use Rattle.definition.specs.Base.{inline}
 use Rattle.definition.specs.Layout.{types, blockFields, elements, variables, initializers, count, word}
@@ -16,26 +15,12 @@ use Rattle.definition.specs.Uses.{linked, namedUse, initializerUses, elementUse
 use Rattle.laws.specs.Cases.{both, either, on-pick}
 use Rattle.laws.specs.Every.{Each}
 use Rattle.laws.specs.Links.{Link, each-join, each-name, linked-each, name-each, uses-apart, uses-join, initializer-apart, Naming}
+use Rattle.laws.specs.Pointed.{DeclarationPointed, declaration-pointed}
 use Rattle.laws.specs.Accepted.{Accepted, few-types, number-in, link-in, run-in, name-in, name-link, type-points, initializer-points, element-points, block-field-points, variable-points}
 
 -- a type of the file
 abbrev pub IsType : List ℕ → ℕ → Type 0
 IsType f d = d < count f types
-
--- the initializer of an alias is one of the file
-abbrev StartsIn : List ℕ → Declaration → Type 0
-StartsIn f decl.Nothing = Unit {0}
-StartsIn f (decl.Simple zero) = Unit {0}
-StartsIn f (decl.Simple (suc i)) = i < count f initializers
-StartsIn f (decl.Subrange name start) = Unit {0}
-StartsIn f (decl.String start) = Unit {0}
-StartsIn f (decl.Array name first many) = Unit {0}
-StartsIn f (decl.Structure first many) = Unit {0}
-StartsIn f (decl.Reference name) = Unit {0}
-StartsIn f (decl.Enumeration name) = Unit {0}
-StartsIn f (decl.LateBound name) = Unit {0}
-StartsIn f (decl.FunctionBlock first many) = Unit {0}
-StartsIn f decl.Unknown = Unit {0}
 
 -- inline is not allowed where the named type is read as a link
 naming-kind : (kind value first many length width : ℕ) → Naming (initializerOf kind value first many length width) → eqb kind 2 || eqb kind 9 ≡ false
@@ -117,28 +102,9 @@ module _ (f : List ℕ) (a : Accepted f) where
       (declared-inside t (word f types t 4) (word f types t 5) (word f types t 6) (word f types t 7) (word f types t 8) (p .declared))
       (block-inside (word f types t 9) (word f types t 10) (p .block))
 
-  -- ---- the initializer of an alias
-  starts-at : (kind name start first many : ℕ) → declarationPoints f kind name start first many ≡ true → StartsIn f (declarationOf kind name start first many)
-  unfolding declarationPoints declarationOf
-  starts-at zero name start first many e = tt
-  starts-at (suc zero) name zero first many e = tt
-  starts-at (suc zero) name (suc i) first many e = number-in f initializers i e
-  starts-at (suc (suc zero)) name start first many e = tt
-  starts-at (suc (suc (suc zero))) name start first many e = tt
-  starts-at (suc (suc (suc (suc zero)))) name start first many e = tt
-  starts-at (suc (suc (suc (suc (suc zero))))) name start first many e = tt
-  starts-at (suc (suc (suc (suc (suc (suc zero)))))) name start first many e = tt
-  starts-at (suc (suc (suc (suc (suc (suc (suc zero))))))) name start first many e = tt
-  starts-at (suc (suc (suc (suc (suc (suc (suc (suc zero)))))))) name start first many e = tt
-  starts-at (suc (suc (suc (suc (suc (suc (suc (suc (suc zero))))))))) name start first many e = tt
-  starts-at (suc (suc (suc (suc (suc (suc (suc (suc (suc (suc kind)))))))))) name start first many e = tt
-
+  -- the initializer of an alias
   pub start-inside : (t i : ℕ) → t < count f types → declarationAt f t ≡ decl.Simple (suc i) → i < count f initializers
-  unfolding declarationAt declarationKind
-  start-inside t i h e =
-      let p = type-points f a t h in
-      let s : StartsIn f (declarationAt f t) = starts-at (word f types t 4) (word f types t 5) (word f types t 6) (word f types t 7) (word f types t 8) (p .declared) in
-      subst (StartsIn f) e s
+  start-inside t i h e = subst (DeclarationPointed f) e (declaration-pointed f a t h)
 
   -- where an alias reads its initializer's named type as a link, it is one, and so a use
   pub named-use : (P : ℕ → Type 0) (t i : ℕ) → t < count f types → Each P (uses f t) → declarationAt f t ≡ decl.Simple (suc i) → Naming (initializerAt f i)

@@ -1,27 +1,27 @@
 -- A sheet of fixed words under ranks that rise is read again line by line, and passes. Assumes nothing.
 use mathlib.Core.Path.{_≡_, refl, ap, sym, _∙_}
-use mathlib.Core.Bool.{Bool, true, false, _&&_}
+use mathlib.Core.Bool.{true}
 use mathlib.Core.List.{List, [], _∷_, _++_, append-assoc, append-nil}
 use Prim.Native.Nat.{ℕ, zero, suc, _+_, _*_, _<_, _≤_}
 use native.Mathlib.Omega.{arith}
 use native.Mathlib.Nat.{zero-add, add-zero}
-use lib.Dec.{eqb, leb}
+use lib.Dec.{leb}
 use lib.ListN.{length, getD, take, drop, length-append}
 use lib.Seq.{take-at, drop-at}
 use borrow.Author.Tests.{eq-eqb, le-leb}
-use Rattle.definition.specs.Base.{pick, choose, every}
+use Rattle.definition.specs.Base.{every}
 use Rattle.definition.specs.Layout.{count, types, variables}
-use Rattle.definition.specs.Accept.{need, verdict}
+use Rattle.definition.specs.Accept.{verdict}
 use Rattle.definition.specs.Tree.{Tree, nodes, flatten}
 use Rattle.definition.specs.Ask.{ok, none, large, Outcome}
 use Rattle.definition.specs.Resolve.{typeOutcome, variableOutcome}
 use Rattle.definition.specs.Complete.{Completed, completed, left, completion}
 use Rattle.definition.specs.Lines.{outcomeWords, completedWords, typeLine, variableLine, completedLine}
 use Rattle.definition.specs.Uses.{rising, uses}
-use Rattle.definition.specs.Sheet.{linesFrom, sheetWith, areTrees, Cut, cut, treeCut, emptyCut, typeCut, variableCut, completedCut, Section, section, unreadable, onCut, onSection, cutLines, readSection, Sheet, Read, read, no, readSheet, sheetRank, ranksRise, sameWords, linesRight, onRead, checkAnswer}
+use Rattle.definition.specs.Sheet.{linesFrom, sheetWith, Cut, cut, treeCut, emptyCut, typeCut, variableCut, completedCut, section, cutLines, readSection, Sheet, read, readSheet, sheetRank, ranksRise, sameWords, linesRight, checkAnswer}
 use Rattle.laws.specs.Asks.{OnOk}
-use Rattle.laws.specs.Every.{Each, each-two, true-every}
-use Rattle.laws.specs.Ranks.{Rising, true-rising, rising-true}
+use Rattle.laws.specs.Every.{each-two, true-every}
+use Rattle.laws.specs.Ranks.{true-rising, rising-true}
 use Rattle.laws.specs.Whole.{Good, flatten-length, tree-whole}
 use Rattle.laws.specs.Values.{Small}
 use Rattle.laws.specs.Accepted.{accepted}
