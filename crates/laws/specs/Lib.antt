@@ -33,6 +33,8 @@ pub mod Used
 pub mod Falling
 pub mod Completes
 pub mod Sizes
+pub mod Depths
+pub mod SameShapes
 -- ---- sheets
 pub mod Cuts
 pub mod Passing

@@ -1,11 +1,10 @@
 -- The first refusal of 1 to 6: the tests before it hold, and its own fails. Assumes nothing.
-use mathlib.Core.Path.{_≡_, refl, sym, _∙_}
+use mathlib.Core.Path.{_≡_}
 use mathlib.Core.Bool.{Bool, true, false}
 use mathlib.Core.List.{List}
 use Prim.Native.Nat.{ℕ}
 use borrow.Author.Needs.{needs}
 use borrow.Author.Tests.{not-true, not-false}
-use Rattle.definition.specs.declared.answers.Acceptance.{Acceptance}
 use Rattle.definition.specs.declared.answers.Acceptance.the-variants.{Accepted, Refused}
 use Rattle.definition.specs.Accept.{endsRight, countsRight, wordsRight, pointsRight, shapesDiffer, arraysSmall, verdict}
 use Rattle.definition.specs.Answers.{acceptAnswer}

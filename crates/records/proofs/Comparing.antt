@@ -1,6 +1,6 @@
 -- Comparing shapes: classes, links, runs, and the lowest shape that is like another. Assumes nothing.
 use mathlib.Core.Path.{_≡_, refl, sym, _∙_}
-use mathlib.Core.Bool.{Bool, true, false, not, _&&_, _||_}
+use mathlib.Core.Bool.{Bool, true, false, not, _&&_, and-true, and-false}
 use mathlib.Core.List.{List, [], _∷_}
 use Prim.Native.Nat.{ℕ, zero, suc, _+_, _-_, _<_, _≤_}
 use native.Mathlib.Omega.{arith}
@@ -12,12 +12,12 @@ use borrow.Author.Needs.{needs}
 use borrow.Author.Tests.{eq-eqb, ne-eqb, lt-ltb, le-ltb, ltb-true, ltb-false}
 use Rattle.definition.specs.Base.{pick, every}
 use Rattle.definition.specs.Layout.{shapes, members, word}
-use Rattle.definition.specs.Records.{shapeAt}
-use Rattle.definition.specs.Accept.{sameMember, sameField, sameDimension, listed, sameLink, shapesLike, alike}
+use Rattle.definition.specs.Records.{shapeOf, shapeAt}
+use Rattle.definition.specs.Accept.{sameMember, sameField, sameDimension, listed, sameLink, likeBy, shapesLike, alike}
 use Rattle.records.specs.declared.alike.Listing.{Listing}
 use Rattle.records.specs.declared.alike.Listing.the-variants.{Members, Fields, Dimensions}
-use Rattle.records.specs.Alike.{classIn, sameIn, sameListed, likeAt, membersLike, arrayLike, lowest, firstLike}
-use Rattle.records.proofs.Listed.{and-true, and-false}
+use Rattle.records.specs.Alike.{classIn, sameIn, sameListed, likeAt, wordsLike, membersLike, arrayLike, lowest, firstLike}
+use Rattle.records.proofs.Listed.{more, agree-at, in-run, past}
 use Rattle.records.proofs.Scanning.{scans}
 
 -- ---- classes
@@ -70,15 +70,54 @@ module _ (f classes : List ℕ) (listing : Listing) (m n : ℕ) {r : Bool} where
   by-dimensions e h = rw e h
 
 -- ---- shapes of one kind
+pub first-is : {a b c d : ℕ} → a ≡ b → c ≡ d → eqb a c ≡ eqb b d
+first-is e h = rw (e, h)
+
 module _ (f classes : List ℕ) (enumerated : Bool) (m n : ℕ) where
   pub kinds-differ : {kind other : ℕ} → kind ≡ word f shapes m 0 → other ≡ word f shapes n 0 → (kind ≡ other → ⊥) → false ≡ shapesLike f (sameIn classes) enumerated m n
   unfolding shapesLike
   kinds-differ e h p = rw (← e, ← h, ne-eqb _ _ p)
 
-  pub kinds-are : {kind other : ℕ} → kind ≡ word f shapes m 0 → other ≡ word f shapes n 0 → kind ≡ other → {r : Bool} → r ≡ likeAt f classes enumerated kind m n
+  pub kinds-are : {kind other : ℕ} → other ≡ word f shapes m 0 → kind ≡ word f shapes n 0 → other ≡ kind → {r : Bool} → r ≡ likeAt f classes enumerated kind m n
       → r ≡ shapesLike f (sameIn classes) enumerated m n
   unfolding shapesLike likeAt shapeAt
-  kinds-are e h p q = rw (← e, ← h, eq-eqb _ _ p) q
+  kinds-are e h p q = rw (← e, ← h, p, eq-eqb _ _ refl) q
+
+  -- kinds whose own words say all
+  module _ {k : ℕ} {r : Bool} (e : r ≡ wordsLike f k m n) where
+    pub by-sizes : k < 10 → r ≡ likeAt f classes enumerated k m n
+    unfolding likeAt wordsLike shapeOf likeBy
+    by-sizes l =
+        e ∙ agree-at (λ k. likeAt f classes enumerated k m n) (λ k. wordsLike f k m n) 0 10 k (omega arith) l
+        (refl, (refl, (refl, (refl, (refl, (refl, (refl, (refl, (refl, (refl, tt))))))))))
+
+    pub by-names : 14 ≤ k → k < 16 → r ≡ likeAt f classes enumerated k m n
+    unfolding likeAt wordsLike shapeOf likeBy
+    by-names l h = e ∙ agree-at (λ k. likeAt f classes enumerated k m n) (λ k. wordsLike f k m n) 14 2 k l h (refl, (refl, tt))
+
+  pub by-target : {k : ℕ} {r : Bool} → k ≡ 16 → r ≡ sameIn classes (word f shapes m 1) (word f shapes n 1) → r ≡ likeAt f classes enumerated k m n
+  unfolding likeAt shapeOf likeBy
+  by-target e h = rw e h
+
+  pub by-bounds : {k : ℕ} {r : Bool} → 10 ≤ k → k < 14 → (k ≡ 10 → ⊥) → (k ≡ 11 → ⊥) → (k ≡ 12 → ⊥) → r ≡ likeAt f classes true 13 m n
+      → r ≡ likeAt f classes enumerated k m n
+  unfolding likeAt shapeOf likeBy
+  by-bounds {k} l u a b c h = let e : k ≡ 13 = omega (arith, a, b, c) in rw e h
+
+  pub no-kind : {k : ℕ} → (k ≡ 16 → ⊥) → 16 ≤ k → false ≡ likeAt f classes enumerated k m n
+  unfolding likeAt shapeOf likeBy
+  no-kind {k} p l = past (λ k. likeAt f classes enumerated k m n) 17 k (more l p) (λ j. refl)
+
+  -- own words: kinds 0 and 9 aside, the first
+  pub first-word : {k : ℕ} {r : Bool} → (k ≡ 0 → ⊥) → (k ≡ 9 → ⊥) → r ≡ eqb (word f shapes m 1) (word f shapes n 1) → r ≡ wordsLike f k m n
+  unfolding wordsLike
+  first-word {k} {r} p o e = go (ltb k 10) refl
+    where
+      go : (b : Bool) → ltb k 10 ≡ b → r ≡ wordsLike f k m n
+      go true q =
+          let l = ltb-true k 10 q in
+          in-run (λ k. wordsLike f k m n) 1 8 k (more (omega arith) p) (omega (arith, o)) (refl, (refl, (refl, (refl, (refl, (refl, (refl, (refl, tt)))))))) e
+      go false q = past (λ k. wordsLike f k m n) 10 k (ltb-false k 10 q) (λ j. e)
 
   pub members-free : enumerated ≡ false → true ≡ membersLike f classes enumerated m n
   unfolding membersLike
@@ -162,6 +201,6 @@ unfolding firstLike alike
 differs f n e = rw e (none-is (λ m. alike f m n) n)
 
 pub ruleset comparing =
-    (scans, link-none, link-one, link-both, runs-differ, runs-are, by-members, by-fields, by-dimensions, kinds-differ, kinds-are, members-free, members-stop, members-go, array-stop, array-go)
+    (scans, link-none, link-one, link-both, runs-differ, runs-are, by-members, by-fields, by-dimensions, kinds-differ, kinds-are, by-sizes, by-names, by-target, no-kind, members-free, members-stop, members-go, array-stop, array-go)
 
 pub ruleset lowests = (needs, none-below, not-here, found-here, none-at-all)

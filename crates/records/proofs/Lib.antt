@@ -1,8 +1,12 @@
 pub mod Accepting
+pub mod Classing
 pub mod Comparing
+pub mod Filling
 pub mod Links
 pub mod Listed
 pub mod Multiplying
+pub mod Nests
 pub mod Running
 pub mod Scanning
 pub mod Starting
+pub mod Wanting

@@ -1,6 +1,5 @@
 -- A rule or a view for each kind stands in a list: what it is at the kinds that the code tells apart. Assumes nothing.
-use mathlib.Core.Path.{_≡_, refl, _∙_}
-use mathlib.Core.Bool.{Bool, true, false, _&&_}
+use mathlib.Core.Path.{_≡_, _∙_}
 use Prim.Native.Nat.{ℕ, zero, suc, _+_, _<_, _≤_}
 use native.Mathlib.Omega.{arith}
 use native.Mathlib.Decide.{ℕ-discrete}
@@ -23,21 +22,22 @@ pub more : {n k : ℕ} → n ≤ k → (k ≡ n → ⊥) → suc n ≤ k
 more l p = omega (arith, p)
 
 module _ {A : Type 0} where
-  -- n kinds from `first` on have one entry
-  abbrev Same : (ℕ → A) → A → ℕ → ℕ → Type 0
-  Same g x first zero = Unit {0}
-  Same g x first (suc n) = (x ≡ g first) × Same g x (suc first) n
+  -- n kinds from `first` on have the same entry in two
+  abbrev Agree : (ℕ → A) → (ℕ → A) → ℕ → ℕ → Type 0
+  Agree g h first zero = Unit {0}
+  Agree g h first (suc n) = (h first ≡ g first) × Agree g h (suc first) n
 
-  same-at : (g : ℕ → A) (x : A) (first n k : ℕ) → first ≤ k → k < first + n → Same g x first n → x ≡ g k
-  same-at g x first zero k l h s = absurd (omega arith)
-  same-at g x first (suc n) k l h s = go (ℕ-discrete k first) (λ m. same-at g x (suc first) n k m (omega arith) (s .1))
+  pub agree-at : (g h : ℕ → A) (first n k : ℕ) → first ≤ k → k < first + n → Agree g h first n → h k ≡ g k
+  agree-at g h first zero k l u s = absurd (omega arith)
+  agree-at g h first (suc n) k l u s = go (ℕ-discrete k first) (λ m. agree-at g h (suc first) n k m (omega arith) (s .1))
     where
-      go : Dec (k ≡ first) → (suc first ≤ k → x ≡ g k) → x ≡ g k
+      go : Dec (k ≡ first) → (suc first ≤ k → h k ≡ g k) → h k ≡ g k
       go (yes e) ih = rw e (s .0)
       go (no e) ih = ih (omega (arith, e))
 
-  pub in-run : (g : ℕ → A) (first n k : ℕ) {r : A} → first ≤ k → k < first + n → Same g (g first) first n → r ≡ g first → r ≡ g k
-  in-run g first n k l h s e = e ∙ same-at g (g first) first n k l h s
+  -- n kinds from `first` on have one entry
+  pub in-run : (g : ℕ → A) (first n k : ℕ) {r : A} → first ≤ k → k < first + n → Agree g (λ j. g first) first n → r ≡ g first → r ≡ g k
+  in-run g first n k l h s e = e ∙ agree-at g (λ j. g first) first n k l h s
 
   -- the kinds from n on have none
   pub past : (g : ℕ → A) (n k : ℕ) {r : A} → n ≤ k → ((j : ℕ) → r ≡ g (sucs n j)) → r ≡ g k
@@ -47,11 +47,3 @@ module _ {A : Type 0} where
 
   pub behind : (g : ℕ → A) (n k : ℕ) {r : A} → Apart n k → ((j : ℕ) → r ≡ g (sucs n j)) → r ≡ g k
   behind g n k a s = past g n k (beyond n k a) s
-
-pub and-true : (b : Bool) → b && true ≡ b
-and-true true = refl
-and-true false = refl
-
-pub and-false : (b : Bool) → b && false ≡ false
-and-false true = refl
-and-false false = refl

@@ -1,5 +1,5 @@
 -- The elements of an array, counted up to one past the most. Assumes nothing.
-use mathlib.Core.Path.{_≡_, refl, sym, _∙_}
+use mathlib.Core.Path.{_≡_, refl, _∙_}
 use mathlib.Core.Bool.{Bool, true, false}
 use mathlib.Core.List.{List}
 use Prim.Native.Nat.{ℕ, zero, suc, _+_, _-_, _*_, _^_, _<_, _≤_, min}
@@ -25,7 +25,7 @@ module _ (f : List ℕ) (n : ℕ) {v w l u : ℕ} (d : v ≡ word f dimensions n
 -- ---- their product
 -- a product's cap needs only the first factor's
 capped-times : (n s : ℕ) → min (min n 65537 * s) 65537 ≡ min (n * s) 65537
-capped-times n zero = rw (mul-zero, mul-zero)
+capped-times n zero = simp mul-zero
 capped-times n (suc s) = go (leb n 65537) refl
   where
     go : (b : Bool) → leb n 65537 ≡ b → min (min n 65537 * suc s) 65537 ≡ min (n * suc s) 65537
@@ -53,8 +53,8 @@ module _ (f : List ℕ) (first : ℕ) where
   one-more {j} {p} {s} i e {r} h =
       record { is = h ∙ rw (add-one, ← e, i .is) (capped-times (elementsOf f first j) s); most = omega arith }
 
-  pub all-counted : {j p : ℕ} → Counted f first j p → (m : ℕ) → j ≤ m → m ≤ j → p ≡ min (elementsOf f first m) 65537
-  all-counted {j} i m h l = let e : m ≡ j = omega arith in rw e (i .is)
+  pub all-multiplied : {j p : ℕ} → Counted f first j p → (m : ℕ) → j ≤ m → m ≤ j → p ≡ min (elementsOf f first m) 65537
+  all-multiplied {j} i m h l = let e : m ≡ j = omega arith in rw e (i .is)
 
 pub times-fits : (p s : ℕ) → p ≤ 65537 → s ≤ 2 ^ 32 → p * s ≤ 65537 * 2 ^ 32
 times-fits p s h l = mul-le-mul h l
@@ -76,4 +76,4 @@ module _ (f : List ℕ) (n : ℕ) {kind : ℕ} (k : kind ≡ word f shapes n 0) 
   unfolding arraySmall
   an-array p {first} {many} a b h = rw (← k, eq-eqb kind 12 p, ← a, ← b, h) (small-is (elementsOf f first many))
 
-pub ruleset multiplying = (needs, none-counted, one-more, all-counted, no-array, an-array)
+pub ruleset multiplying = (needs, none-counted, one-more, all-multiplied, no-array, an-array)

@@ -1,14 +1,12 @@
 -- Runs: inside their section first, then every record by its rule. Assumes nothing.
-use mathlib.Core.Path.{_≡_, refl, sym, _∙_}
+use mathlib.Core.Path.{_≡_, sym, _∙_}
 use mathlib.Core.Bool.{Bool, true, false}
 use mathlib.Core.List.{List}
 use Prim.Native.Nat.{ℕ, _+_, _^_, _<_}
-use lib.Dec.{ltb}
 use Rattle.definition.specs.Base.{every}
-use Rattle.definition.specs.Layout.{shapeFields, word}
 use Rattle.definition.specs.Accept.{runIn, runOf, arrayEntry, memberEntry}
 use Rattle.records.specs.declared.runs.Rule.{Rule}
-use Rattle.records.specs.declared.runs.Rule.the-variants.{FieldBelow, ArrayEntry, MemberEntry}
+use Rattle.records.specs.declared.runs.Rule.the-variants.{ArrayEntry, MemberEntry}
 use Rattle.records.specs.declared.scan.Scan.{Scan}
 use Rattle.records.specs.declared.scan.Scan.the-variants.{Words, Points}
 use Rattle.records.specs.Rules.{meets, plainRule, pointRule, ruleOf}
@@ -33,10 +31,6 @@ module _ (f : List ℕ) (s first many : ℕ) where
 
 -- ---- rules by name
 module _ (f : List ℕ) (k : ℕ) (rule : Rule) {r : Bool} where
-  pub meets-field : {shape : ℕ} → rule ≡ FieldBelow shape → r ≡ ltb (word f shapeFields k 1) shape → r ≡ meets f rule k
-  unfolding meets
-  meets-field e h = rw e h
-
   pub meets-array : rule ≡ ArrayEntry → r ≡ arrayEntry f k → r ≡ meets f rule k
   unfolding meets
   meets-array e h = rw e h

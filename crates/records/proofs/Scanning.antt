@@ -1,6 +1,6 @@
 -- A loop that tests every number below a count: it goes on while the tests hold and stops at the first that fails. Assumes nothing.
-use mathlib.Core.Path.{_≡_, refl, sym, _∙_}
-use mathlib.Core.Bool.{Bool, true, false, not, _&&_}
+use mathlib.Core.Path.{_≡_, refl, sym}
+use mathlib.Core.Bool.{Bool, true, false, _&&_, and-false}
 use Prim.Native.Nat.{ℕ, zero, suc, _+_, _<_, _≤_}
 use native.Mathlib.Omega.{arith}
 use native.Mathlib.Decide.{ℕ-discrete}
@@ -8,7 +8,6 @@ use native.Mathlib.Numerals.{add-one}
 use borrow.Author.Needs.{needs}
 use borrow.Author.Tests.{not-true, not-false}
 use Rattle.definition.specs.Base.{every}
-use Rattle.records.proofs.Listed.{and-false}
 
 -- the tests below n hold
 pub record Passed (p : ℕ → Bool) (n : ℕ) : Type 0 where

@@ -1,13 +1,13 @@
 -- Comparing shapes where those inside are compared by a number that stands for each, and the lowest shape that is like another.
-use mathlib.Core.Bool.{Bool, true, false, not, _&&_, _||_}
-use mathlib.Core.List.{List}
-use Prim.Native.Nat.{ℕ, zero, suc, _+_}
+use mathlib.Core.Bool.{Bool, true, not, _&&_, _||_}
+use mathlib.Core.List.{List, [], _∷_}
+use Prim.Native.Nat.{ℕ, zero, suc}
 use lib.Dec.{eqb, ltb}
 use lib.ListN.{getD}
 use Rattle.definition.specs.Base.{pick}
 use Rattle.definition.specs.Layout.{shapes, word}
 use Rattle.definition.specs.Records.{shapeOf}
-use Rattle.definition.specs.Accept.{sameMember, sameField, sameDimension, listed, sameLink, likeBy, shapesLike}
+use Rattle.definition.specs.Accept.{sameMember, sameField, sameDimension, listed, likeBy, shapesLike}
 use Rattle.records.specs.declared.alike.Listing.{Listing}
 use Rattle.records.specs.declared.alike.Listing.the-variants.{Members, Fields, Dimensions}
 
@@ -29,6 +29,12 @@ unfoldable pub likeAt : List ℕ → List ℕ → Bool → ℕ → ℕ → ℕ �
 likeAt f classes enumerated kind m n =
     likeBy f (sameIn classes) enumerated (shapeOf kind (word f shapes m 1) (word f shapes m 2) (word f shapes m 3) (word f shapes m 4))
     (word f shapes n 1) (word f shapes n 2) (word f shapes n 3) (word f shapes n 4)
+
+-- shapes m and n of one kind, where their own words say all: bits, length and width, or a name
+unfoldable pub wordsLike : List ℕ → ℕ → ℕ → ℕ → Bool
+wordsLike f kind m n =
+    let first : Bool = eqb (word f shapes m 1) (word f shapes n 1) in
+    getD (true ∷ first ∷ first ∷ first ∷ first ∷ first ∷ first ∷ first ∷ first ∷ (first && eqb (word f shapes m 2) (word f shapes n 2)) ∷ []) kind first
 
 -- whether members and default are the same, where they count
 unfoldable pub membersLike : List ℕ → List ℕ → Bool → ℕ → ℕ → Bool

@@ -8,7 +8,6 @@ ghost use Rattle.definition.specs.Layout.{initializers};
 ghost use Rattle.definition.specs.Accept as Accept;
 ghost use Rattle.records.specs.Starts.{StartsOf};
 use crate::plain::INLINE;
-use crate::plain::is_name;
 use crate::words::Sections;
 use crate::words::count;
 use crate::words::word;

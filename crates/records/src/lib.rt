@@ -2,7 +2,9 @@
 pub mod accept;
 pub mod alike;
 pub mod arrays;
+pub mod classes;
 pub mod counts;
+pub mod depths;
 pub mod inside;
 pub mod like;
 pub mod plain;
@@ -12,3 +14,4 @@ pub mod runs;
 pub mod scan;
 pub mod view;
 pub mod words;
+pub mod work;

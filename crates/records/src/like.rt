@@ -1,15 +1,14 @@
 // Whether two shapes are like each other, and the lowest shape that is like one: refusal 5, and shape classes.
 ghost use mathlib.Core.Path.{_≡_};
-ghost use mathlib.Core.Bool.{not, _&&_};
-ghost use mathlib.Core.List.{[]};
-ghost use Prim.Native.Nat.{_+_, _<_};
+ghost use mathlib.Core.Bool.{true, not};
+ghost use Prim.Native.Nat.{_+_, _<_, _≤_};
 ghost use lib.Dec.{eqb};
 ghost use Rattle.definition.specs.Base.{every};
 ghost use Rattle.definition.specs.Layout as Layout;
 ghost use Rattle.definition.specs.Layout.{shapes};
-ghost use Rattle.definition.specs.Accept.{listed, sameLink, sameInteger, shapesLike, alike, shapesDiffer};
+ghost use Rattle.definition.specs.Accept.{listed, sameInteger, shapesLike, alike, shapesDiffer};
 ghost use Rattle.records.specs.Starts.{StartsOf};
-ghost use Rattle.records.specs.Alike.{sameIn, sameListed, likeAt, membersLike, arrayLike, firstLike};
+ghost use Rattle.records.specs.Alike.{sameIn, sameListed, likeAt, wordsLike, membersLike, arrayLike, firstLike};
 use crate::alike::Listing;
 use crate::alike::same_in;
 use crate::alike::same_link;
@@ -128,8 +127,17 @@ fn array_like(file: &[u32], sections: Sections, classes: &[u32], m: u32, n: u32)
     same_runs(file, sections, classes, Listing::Dimensions, m, n, 2)
 }
 
-// Shapes m and n, where both have one kind.
-fn like(
+fn subrange_like(file: &[u32], sections: Sections, classes: &[u32], m: u32, n: u32) -> bool
+    requires { ⌜ StartsOf (now file) (sections .starts) ⌝ }
+    ensures { λ r. ⌜ r ≡ likeAt (now (file .entry)) (now (classes .entry)) true 13 m n ⌝ }
+{
+    same_inside(file, sections, classes, m, n, 1)
+        & same_bound(file, sections, m, n, 2)
+        & same_bound(file, sections, m, n, 3)
+}
+
+// Shapes m and n of one kind whose words lead on: to runs, shapes or constants.
+fn inside_like(
     file: &[u32],
     sections: Sections,
     classes: &[u32],
@@ -138,45 +146,62 @@ fn like(
     m: u32,
     n: u32,
 ) -> bool
-    requires { ⌜ StartsOf (now file) (sections .starts) ⌝ }
+    requires { ⌜ StartsOf (now file) (sections .starts) × (10 ≤ kind) × (kind < 14) ⌝ }
     ensures { λ r. ⌜ r ≡ likeAt (now (file .entry)) (now (classes .entry)) enumerated kind m n ⌝ }
 {
     match kind {
-        0 => true,
-        1..=8 => same_word(file, sections, SHAPES, m, n, 1),
-        9 => same_word(file, sections, SHAPES, m, n, 1)
-            & same_word(file, sections, SHAPES, m, n, 2),
         10 => enumeration_like(file, sections, classes, enumerated, m, n),
         11 => same_runs(file, sections, classes, Listing::Fields, m, n, 1),
         12 => array_like(file, sections, classes, m, n),
-        13 => {
-            same_inside(file, sections, classes, m, n, 1)
-                & same_bound(file, sections, m, n, 2)
-                & same_bound(file, sections, m, n, 3)
-        }
-        14..=15 => same_word(file, sections, SHAPES, m, n, 1),
-        16 => same_inside(file, sections, classes, m, n, 1),
-        _ => false,
+        _ => subrange_like(file, sections, classes, m, n),
     }
 }
 
+// Shapes m and n have the same first word, which the caller has read for n.
+fn same_first(file: &[u32], sections: Sections, first: u32, m: u32, n: u32) -> bool
+    requires { ⌜ StartsOf (now file) (sections .starts) × (first ≡ Layout.word (now file) shapes n 1) ⌝ }
+    ensures { λ r. ⌜ r ≡ eqb (Layout.word (now (file .entry)) shapes m 1) (Layout.word (now (file .entry)) shapes n 1) ⌝ }
+{
+    word(file, sections, SHAPES, m, 1) == first
+}
+
+// Shapes m and n of one kind whose own words say all.
+fn words_like(file: &[u32], sections: Sections, kind: u32, first: u32, m: u32, n: u32) -> bool
+    requires { ⌜ StartsOf (now file) (sections .starts) × (first ≡ Layout.word (now file) shapes n 1) ⌝ }
+    ensures { λ r. ⌜ r ≡ wordsLike (now (file .entry)) kind m n ⌝ }
+{
+    match kind {
+        0 => true,
+        9 => same_first(file, sections, first, m, n) & same_word(file, sections, SHAPES, m, n, 2),
+        _ => same_first(file, sections, first, m, n),
+    }
+}
+
+// Most pairs are told apart by kind and words: those are compared apart from the others, which hand the sections on.
 fn shapes_like(
     file: &[u32],
     sections: Sections,
     classes: &[u32],
     enumerated: bool,
+    kind: u32,
+    first: u32,
     m: u32,
     n: u32,
 ) -> bool
-    requires { ⌜ StartsOf (now file) (sections .starts) ⌝ }
+    requires { ⌜ StartsOf (now file) (sections .starts) × (kind ≡ Layout.word (now file) shapes n 0) × (first ≡ Layout.word (now file) shapes n 1) ⌝ }
     ensures { λ r. ⌜ r ≡ shapesLike (now (file .entry)) (sameIn (now (classes .entry))) enumerated m n ⌝ }
 {
-    let kind = word(file, sections, SHAPES, m, 0);
-    let other = word(file, sections, SHAPES, n, 0);
-    if kind != other {
+    let other = word(file, sections, SHAPES, m, 0);
+    if other != kind {
         return false;
     }
-    like(file, sections, classes, enumerated, kind, m, n)
+    match kind {
+        16 => same_inside(file, sections, classes, m, n, 1),
+        0..=9 => words_like(file, sections, kind, first, m, n),
+        10..=13 => inside_like(file, sections, classes, enumerated, kind, m, n),
+        14..=15 => words_like(file, sections, kind, first, m, n),
+        _ => false,
+    }
 }
 
 // The lowest shape below n that is like it, or n.
@@ -190,8 +215,10 @@ pub fn first_like(
     requires { ⌜ StartsOf (now file) (sections .starts) ⌝ }
     ensures { λ r. ⌜ r ≡ firstLike (now (file .entry)) (now (classes .entry)) enumerated n ⌝ }
 {
+    let kind = word(file, sections, SHAPES, n, 0);
+    let first = word(file, sections, SHAPES, n, 1);
     for m in 0..n {
-        if shapes_like(file, sections, classes, enumerated, m, n) {
+        if shapes_like(file, sections, classes, enumerated, kind, first, m, n) {
             return m;
         }
     }

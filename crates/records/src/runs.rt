@@ -1,10 +1,8 @@
 // Refusal 4, second part: runs whose every record meets a rule, and where entries may stand.
 ghost use mathlib.Core.Path.{_≡_};
 ghost use mathlib.Core.Bool.{true, false, _&&_};
-ghost use mathlib.Core.List.{[], _∷_};
 ghost use Prim.Native.Nat.{_<_};
 ghost use lib.Dec.{ltb};
-ghost use lib.ListN.{getD};
 ghost use Rattle.definition.specs.Accept as Accept;
 ghost use Rattle.records.specs.Starts.{StartsOf};
 ghost use Rattle.records.specs.Rules as Rules;

@@ -8,7 +8,13 @@ shapes-like-spec =
     tie.close
     (tie.spec
     (λ c κs. search comparing)
-    (λ c κs. search comparing)
     (λ c. search comparing)
     (λ c κs. search comparing)
+    (λ c κs. search comparing)
+    (λ c κs. search comparing)
+    (λ c κs. search comparing)
+    (λ c. search comparing)
+    (λ c. search comparing)
+    (λ c. search comparing)
+    (λ c. search comparing)
     (λ c. search comparing))

@@ -1,8 +1,8 @@
 -- `plain::unused1` meets its contract. Assumes nothing.
 use mathlib.Core.Path.{sym}
+use mathlib.Core.Bool.{and-true}
 use lib.Dec.{eqb}
 use Rattle.definition.specs.Base.{unused}
-use Rattle.records.proofs.Listed.{and-true}
 use Rattle.records.proofs.plain.unused1.Statement.{statement}
 use Rattle.records.proofs.plain.unused1.Tie as tie
 

@@ -16,6 +16,6 @@ meets-spec =
     (λ c κs. search needs)
     (λ c. search needs)
     (λ c κs. search needs)
-    (λ c. rw (c .before .before .rule .given .1) (cc))
+    (λ c. rw (c .before .before .rule .given .1, c .word .ensures))
     (λ c. search meets-array)
     (λ c. search meets-member))

@@ -8,9 +8,9 @@ pub record-right-spec : {M : Type 1} → statement M
 record-right-spec =
     tie.close
     (tie.spec
-    (λ c. search (needs, by-words, by-points))
-    (λ c κs. search (needs, by-words, by-points))
-    (λ c. search (needs, by-words, by-points))
-    (λ c κs. search (needs, by-words, by-points))
-    (λ c. search (needs, by-words, by-points))
-    (λ c. search (needs, by-words, by-points)))
+    (λ c. search needs)
+    (λ c κs. search needs)
+    (λ c. search needs)
+    (λ c κs. search needs)
+    (λ c. search by-words)
+    (λ c. search by-points))
