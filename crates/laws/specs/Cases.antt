@@ -25,6 +25,23 @@ pub neither : (a b : Bool) → a || b ≡ false → (a ≡ false) × (b ≡ fals
 neither true b e = let z : _≡_ {A = ℕ} 0 1 = cc in absurd (omega arith)
 neither false b e = (refl, e)
 
+-- ---- kinds: what holds at each below n, and at every other, holds
+abbrev pub Kinds : ℕ → (ℕ → Type 0) → Type 0 → Type 0
+Kinds zero P R = ((k : ℕ) → P k) → R
+Kinds (suc n) P R = P 0 → Kinds n (λ k. P (suc k)) R
+
+lead : (n : ℕ) (P : ℕ → Type 0) {R S : Type 0} → (R → S) → Kinds n P R → Kinds n P S
+lead zero P g c = λ h. g (c h)
+lead (suc n) P g c = λ h. lead n (λ k. P (suc k)) g (c h)
+
+pub by-kind : (n : ℕ) (P : ℕ → Type 0) → Kinds n P ((k : ℕ) → P k)
+by-kind zero P = λ h. h
+by-kind (suc n) P = λ h. lead n (λ k. P (suc k)) (first h) (by-kind n (λ k. P (suc k)))
+  where
+    first : P 0 → ((k : ℕ) → P (suc k)) → (k : ℕ) → P k
+    first h r zero = h
+    first h r (suc k) = r k
+
 -- ---- choices
 module _ {A : Type 0} (P : A → Type 0) where
   pub on-pick : (b : Bool) (x y : A) → (b ≡ true → P x) → (b ≡ false → P y) → P (pick b x y)

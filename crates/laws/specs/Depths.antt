@@ -1,23 +1,21 @@
 -- How deep entries and shapes nest in an accepted file: what they point to nests less deep, and so the work words that any file wants are bounded. Assumes nothing.
 use mathlib.Core.Path.{_≡_, refl, sym, ap, _∙_}
-use mathlib.Core.Bool.{Bool, true, false, not, _&&_}
+use mathlib.Core.Bool.{Bool}
 use mathlib.Core.List.{List}
 use Prim.Native.Nat.{ℕ, zero, suc, _+_, _-_, _≤_, _<_, max}
 use native.Mathlib.Omega.{arith}
 use native.Mathlib.Decide.{ℕ-discrete}
-use lib.Dec.{eqb, leb, ltb, lit<}
-use borrow.Author.Tests.{ltb-true, leb-true, eqb-true}
+use lib.Dec.{lit<}
+use Rattle.definition.specs.declared.records.Shape.{Shape}
 use Rattle.definition.specs.declared.records.Shape.the-variants as shape
+use Rattle.definition.specs.declared.records.Entry.{Entry}
 use Rattle.definition.specs.declared.records.Entry.the-variants as entry
-use Rattle.definition.specs.Base.{choose, every}
-use Rattle.definition.specs.Layout.{limitsOfRecords, mostRecords, count, word, shapes, shapeFields, dimensions, entries}
-use Rattle.definition.specs.Records.{shapeOf, shapeAt, entryOf, entryAt}
-use Rattle.definition.specs.Accept.{runIn, runOf, linkTo, arrayEntry, memberEntry, lowerRun, shapePoints, entryPoints, pointRules}
+use Rattle.definition.specs.Layout.{limitsOfRecords, mostRecords, count, word, shapes, shapeFields, entries}
+use Rattle.definition.specs.Records.{shapeAt, entryAt}
 use Rattle.definition.specs.Depth.{deepest, entryDepthFrom, entryDepthUpTo, entryDepth, shapeDepthFrom, shapeDepthUpTo, shapeDepth, levels}
 use Rattle.definition.specs.Answers.{checkWords, resolverWords, writerWords}
-use Rattle.laws.specs.Cases.{never, both, either}
-use Rattle.laws.specs.Every.{every-true}
-use Rattle.laws.specs.Accepted.{Accepted, count-most, point-rule, few-types}
+use Rattle.laws.specs.Accepted.{Accepted, count-most, few-types}
+use Rattle.laws.specs.Pointed.{run-at, InArray, InMembers, ShapePointed, EntryPointed, shape-pointed, entry-pointed}
 
 -- ---- the greatest of so many depths
 module _ (d : ℕ → ℕ) where
@@ -100,75 +98,48 @@ module _ (many : ℕ) (from : ℕ → (ℕ → ℕ) → ℕ) (upTo : ℕ → ℕ
           let m = step-most (steps n i) (λ j. upTo (suc j) j) (λ j b. let r = go k j (omega arith) (omega arith) in omega arith) in
           omega (arith, depth-is n i)
 
--- ---- entries
-lower-run : (f : List ℕ) (e : ℕ) (rule : ℕ → Bool) (first many : ℕ) → lowerRun f e rule first many ≡ true → (k : ℕ) → first ≤ k → k < first + many → k < e
-unfolding lowerRun
-lower-run f e rule first many r k l h =
-    either (leb (first + many) e) (eqb many 0) (both (runOf f entries rule first many) _ r .1)
-    (λ q. let z = leb-true (first + many) e q in omega arith)
-    (λ q. let z = eqb-true many 0 q in absurd (omega arith))
+-- ---- entries and shapes, by their views
+entry-step : (f : List ℕ) (e : ℕ) (v : Entry) → EntryPointed f e v → Step e (λ below. entryDepthFrom below v)
+unfolding entryDepthFrom
+entry-step f e (entry.Constant number) p = leaf (λ below. refl)
+entry-step f e (entry.Enumerated value qualifier) p = leaf (λ below. refl)
+entry-step f e (entry.Array first many) p = run (λ k. k) first many (λ k l h. run-at (λ i. (i < e) × InArray f i) first many (p .1) k l h .0) (λ below. refl)
+entry-step f e (entry.Structure first many) p = run (λ k. k) first many (λ k l h. run-at (λ i. (i < e) × InMembers f i) first many (p .1) k l h .0) (λ below. refl)
+entry-step f e (entry.Expression number) p = leaf (λ below. refl)
+entry-step f e entry.LateBound p = leaf (λ below. refl)
+entry-step f e (entry.Repeat many zero) p = leaf (λ below. refl)
+entry-step f e (entry.Repeat many (suc i)) p = over i (p .0) (λ below. refl)
+entry-step f e entry.Unknown p = absurd p
 
-lower-link : (f : List ℕ) (e i : ℕ) → linkTo (λ i. ltb i e && arrayEntry f i) (suc i) ≡ true → i < e
-unfolding linkTo
-lower-link f e i r = ltb-true i e (both (ltb i e) (arrayEntry f i) r .0)
-
-entry-step : (f : List ℕ) (e kind a b : ℕ) → entryPoints f e kind a b ≡ true → Step e (λ below. entryDepthFrom below (entryOf kind a b))
-unfolding entryPoints entryOf entryDepthFrom
-entry-step f e zero a b r = leaf (λ below. refl)
-entry-step f e (suc zero) a b r = leaf (λ below. refl)
-entry-step f e (suc (suc zero)) a b r = run (λ k. k) a b (lower-run f e (arrayEntry f) a b r) (λ below. refl)
-entry-step f e (suc (suc (suc zero))) a b r = run (λ k. k) a b (lower-run f e (memberEntry f) a b r) (λ below. refl)
-entry-step f e (suc (suc (suc (suc zero)))) a b r = leaf (λ below. refl)
-entry-step f e (suc (suc (suc (suc (suc zero))))) a b r = leaf (λ below. refl)
-entry-step f e (suc (suc (suc (suc (suc (suc zero)))))) a zero r = leaf (λ below. refl)
-entry-step f e (suc (suc (suc (suc (suc (suc zero)))))) a (suc i) r = over i (lower-link f e i r) (λ below. refl)
-entry-step f e (suc (suc (suc (suc (suc (suc (suc kind))))))) a b r = leaf (λ below. refl)
-
--- ---- shapes
-pub lower-fields : (f : List ℕ) (n first many : ℕ) → runOf f shapeFields (λ k. ltb (word f shapeFields k 1) n) first many ≡ true
-    → (k : ℕ) → first ≤ k → k < first + many → word f shapeFields k 1 < n
-unfolding runOf
-lower-fields f n first many r k l h = go (runIn f shapeFields first many) r
-  where
-    go : (b : Bool) → choose b (λ u. every (λ j. ltb (word f shapeFields (first + j) 1) n) many) (λ u. false) ≡ true → word f shapeFields k 1 < n
-    go true q =
-        let e : first + (k - first) ≡ k = omega arith in
-        ltb-true (word f shapeFields k 1) n (rw e at (every-true (λ j. ltb (word f shapeFields (first + j) 1) n) many q (k - first) (omega arith)))
-    go false q = never q
-
-shape-step : (f : List ℕ) (n kind a b c d : ℕ) → shapePoints f n kind a b c d ≡ true → Step n (λ below. shapeDepthFrom f below (shapeOf kind a b c d))
-unfolding shapePoints shapeOf shapeDepthFrom
-shape-step f n zero a b c d r = leaf (λ below. refl)
-shape-step f n (suc zero) a b c d r = leaf (λ below. refl)
-shape-step f n (suc (suc zero)) a b c d r = leaf (λ below. refl)
-shape-step f n (suc (suc (suc zero))) a b c d r = leaf (λ below. refl)
-shape-step f n (suc (suc (suc (suc zero)))) a b c d r = leaf (λ below. refl)
-shape-step f n (suc (suc (suc (suc (suc zero))))) a b c d r = leaf (λ below. refl)
-shape-step f n (suc (suc (suc (suc (suc (suc zero)))))) a b c d r = leaf (λ below. refl)
-shape-step f n (suc (suc (suc (suc (suc (suc (suc zero))))))) a b c d r = leaf (λ below. refl)
-shape-step f n (suc (suc (suc (suc (suc (suc (suc (suc zero)))))))) a b c d r = leaf (λ below. refl)
-shape-step f n (suc (suc (suc (suc (suc (suc (suc (suc (suc zero))))))))) a b c d r = leaf (λ below. refl)
-shape-step f n (suc (suc (suc (suc (suc (suc (suc (suc (suc (suc zero)))))))))) a b c d r = leaf (λ below. refl)
-shape-step f n (suc (suc (suc (suc (suc (suc (suc (suc (suc (suc (suc zero))))))))))) a b c d r =
-    run (λ k. word f shapeFields k 1) a b (lower-fields f n a b r) (λ below. refl)
-shape-step f n (suc (suc (suc (suc (suc (suc (suc (suc (suc (suc (suc (suc zero)))))))))))) a b c d r =
-    over a (ltb-true a n (both (ltb a n) (runIn f dimensions b c) (both _ (not (eqb c 0)) r .0) .0)) (λ below. refl)
-shape-step f n (suc (suc (suc (suc (suc (suc (suc (suc (suc (suc (suc (suc (suc zero))))))))))))) a b c d r = leaf (λ below. refl)
-shape-step f n (suc (suc (suc (suc (suc (suc (suc (suc (suc (suc (suc (suc (suc (suc zero)))))))))))))) a b c d r = leaf (λ below. refl)
-shape-step f n (suc (suc (suc (suc (suc (suc (suc (suc (suc (suc (suc (suc (suc (suc (suc zero))))))))))))))) a b c d r = leaf (λ below. refl)
-shape-step f n (suc (suc (suc (suc (suc (suc (suc (suc (suc (suc (suc (suc (suc (suc (suc (suc zero)))))))))))))))) a b c d r = leaf (λ below. refl)
-shape-step f n (suc (suc (suc (suc (suc (suc (suc (suc (suc (suc (suc (suc (suc (suc (suc (suc (suc kind))))))))))))))))) a b c d r = leaf (λ below. refl)
+shape-step : (f : List ℕ) (n : ℕ) (v : Shape) → ShapePointed f n v → Step n (λ below. shapeDepthFrom f below v)
+unfolding shapeDepthFrom
+shape-step f n shape.Bool p = leaf (λ below. refl)
+shape-step f n (shape.Int bits) p = leaf (λ below. refl)
+shape-step f n (shape.UInt bits) p = leaf (λ below. refl)
+shape-step f n (shape.Real bits) p = leaf (λ below. refl)
+shape-step f n (shape.Bytes bits) p = leaf (λ below. refl)
+shape-step f n (shape.Time bits) p = leaf (λ below. refl)
+shape-step f n (shape.Date bits) p = leaf (λ below. refl)
+shape-step f n (shape.TimeOfDay bits) p = leaf (λ below. refl)
+shape-step f n (shape.DateAndTime bits) p = leaf (λ below. refl)
+shape-step f n (shape.String length width) p = leaf (λ below. refl)
+shape-step f n (shape.Enumeration first many default underlying) p = leaf (λ below. refl)
+shape-step f n (shape.Structure first many) p =
+    run (λ k. word f shapeFields k 1) first many (run-at (λ k. word f shapeFields k 1 < n) first many (p .1)) (λ below. refl)
+shape-step f n (shape.Array element first many) p = over element (p .0) (λ below. refl)
+shape-step f n (shape.Subrange base least greatest) p = leaf (λ below. refl)
+shape-step f n (shape.FunctionBlock name) p = leaf (λ below. refl)
+shape-step f n (shape.Interface name) p = leaf (λ below. refl)
+shape-step f n (shape.Reference target) p = leaf (λ below. refl)
+shape-step f n shape.Unknown p = absurd p
 
 -- ---- an accepted file
 module _ (f : List ℕ) (a : Accepted f) where
   entry-steps : (e : ℕ) → e < count f entries → Step e (λ below. entryDepthFrom below (entryAt f e))
-  unfolding pointRules entryAt
-  entry-steps e h = entry-step f e (word f entries e 0) (word f entries e 2) (word f entries e 3) (point-rule f a entries e (lit< tt) h)
+  entry-steps e h = entry-step f e (entryAt f e) (entry-pointed f a e h)
 
   shape-steps : (n : ℕ) → n < count f shapes → Step n (λ below. shapeDepthFrom f below (shapeAt f n))
-  unfolding pointRules shapeAt
-  shape-steps n h =
-      shape-step f n (word f shapes n 0) (word f shapes n 1) (word f shapes n 2) (word f shapes n 3) (word f shapes n 4) (point-rule f a shapes n (lit< tt) h)
+  shape-steps n h = shape-step f n (shapeAt f n) (shape-pointed f a n h)
 
   next-entry : (k e : ℕ) → entryDepthUpTo f (suc k) e ≡ entryDepthFrom (entryDepthUpTo f k) (entryAt f e)
   unfolding entryDepthUpTo

@@ -3,7 +3,7 @@
 use mathlib.Core.Path.{_≡_, refl}
 use mathlib.Core.Bool.{Bool, true, false, not, _&&_, _||_}
 use mathlib.Core.List.{List, [], _∷_}
-use Prim.Native.Nat.{ℕ, zero, suc, _+_, _≤_, _<_}
+use Prim.Native.Nat.{ℕ, zero, suc, _+_, _-_, _≤_, _<_}
 use native.Mathlib.Omega.{arith}
 use lib.Dec.{eqb, leb, ltb, lit<}
 use lib.ListN.{getD}
@@ -22,27 +22,10 @@ use Rattle.definition.specs.Base.{every, onLink}
 use Rattle.definition.specs.Layout.{shapes, members, shapeFields, dimensions, types, blockFields, elements, variables, initializers, entries, expressions, constants, characters, count, word}
 use Rattle.definition.specs.Records.{shapeOf, shapeAt, declarationOf, declarationAt, declarationKind, initializerOf, initializerAt, initializerKind, entryOf, entryAt, expressionOf, expressionAt}
 use Rattle.definition.specs.Accept.{isName, plainRules, shapePlain, shapeFieldPlain, blockFieldPlain, entryPlain, pointRules, numberIn, runIn, runOf, constantIn, linkTo, memberEntry, arrayEntry, enumeratedEntry, shapePoints, nameIn, declarationPoints, referencePoints, valuePoints, lowerRun, entryPoints, expressionPoints, constantPoints}
-use Rattle.laws.specs.Cases.{never, both, either}
+use Rattle.laws.specs.Cases.{never, both, either, by-kind}
 use Rattle.laws.specs.Every.{every-true}
 use Rattle.laws.specs.Links.{Link}
 use Rattle.laws.specs.Accepted.{Accepted, word-rule, point-rule, number-in, link-in, run-in, type-points, initializer-points}
-
--- ---- what holds at each kind below n, and at every other, holds
-abbrev Kinds : ℕ → (ℕ → Type 0) → Type 0 → Type 0
-Kinds zero P R = ((k : ℕ) → P k) → R
-Kinds (suc n) P R = P 0 → Kinds n (λ k. P (suc k)) R
-
-lead : (n : ℕ) (P : ℕ → Type 0) {R S : Type 0} → (R → S) → Kinds n P R → Kinds n P S
-lead zero P g c = λ h. g (c h)
-lead (suc n) P g c = λ h. lead n (λ k. P (suc k)) g (c h)
-
-by-kind : (n : ℕ) (P : ℕ → Type 0) → Kinds n P ((k : ℕ) → P k)
-by-kind zero P = λ h. h
-by-kind (suc n) P = λ h. lead n (λ k. P (suc k)) (first h) (by-kind n (λ k. P (suc k)))
-  where
-    first : P 0 → ((k : ℕ) → P (suc k)) → (k : ℕ) → P k
-    first h r zero = h
-    first h r (suc k) = r k
 
 -- ---- names, links and runs
 is-name : (w : ℕ) → isName w ≡ true → w ≡ 0 → ⊥
@@ -57,6 +40,9 @@ link-of rule P h (suc n) e = h n e
 -- each record of a run is a P
 abbrev pub Run : (ℕ → Type 0) → ℕ → ℕ → Type 0
 Run P first many = (j : ℕ) → j < many → P (first + j)
+
+pub run-at : (P : ℕ → Type 0) (first many : ℕ) → Run P first many → (k : ℕ) → first ≤ k → k < first + many → P k
+run-at P first many h k l b = let e : first + (k - first) ≡ k = omega arith in rw e at (h (k - first) (omega arith))
 
 module _ (f : List ℕ) where
   -- a constant of a kind

@@ -1,20 +1,21 @@
 -- Comparing shapes as the Rust's `==` does, in an accepted file: how deep does not matter, and it is an equivalence. A shape is a list of items, each a word or
 -- a shape inside, and two shapes are the same where their items are. Assumes nothing.
 use mathlib.Core.Path.{_≡_, refl, sym, ap, _∙_}
-use mathlib.Core.Bool.{Bool, true, false, not, _&&_, and-true, and-assoc, and-comm}
+use mathlib.Core.Bool.{Bool, true, false, _&&_, and-true, and-assoc, and-comm}
 use mathlib.Core.List.{List, [], _∷_, _++_}
 use Prim.Native.Nat.{ℕ, zero, suc, _+_, _-_, _≤_, _<_}
 use native.Mathlib.Omega.{arith}
-use lib.Dec.{eqb, leb, ltb, lit<}
+use lib.Dec.{eqb}
 use lib.ListN.{length, getD}
-use borrow.Author.Tests.{ltb-true, leb-true, eqb-true, eq-eqb, ne-eqb}
+use borrow.Author.Tests.{eqb-true, eq-eqb, ne-eqb}
 use Rattle.definition.specs.Base.{choose, every}
-use Rattle.definition.specs.Layout.{count, word, shapes, members, shapeFields, dimensions, constants}
+use Rattle.definition.specs.Layout.{count, word, shapes, shapeFields, dimensions, constants}
 use Rattle.definition.specs.Records.{shapeOf, shapeAt}
-use Rattle.definition.specs.Accept.{runIn, constantIn, shapePoints, pointRules, listed, sameField, sameDimension, sameInteger, sameLink, likeBy, shapesLike, sameUpTo, sameShape}
-use Rattle.laws.specs.Cases.{never, both}
-use Rattle.laws.specs.Accepted.{Accepted, point-rule}
-use Rattle.laws.specs.Depths.{lower-fields}
+use Rattle.definition.specs.Accept.{listed, sameField, sameDimension, sameInteger, sameLink, likeBy, shapesLike, sameUpTo, sameShape}
+use Rattle.laws.specs.Cases.{never, both, by-kind}
+use Rattle.laws.specs.Links.{Link}
+use Rattle.laws.specs.Accepted.{Accepted}
+use Rattle.laws.specs.Pointed.{run-at, ShapePointed, shape-pointed}
 
 -- ---- items
 data Item : Type 0 where
@@ -152,9 +153,6 @@ itemsOf f kind a b c d =
     []) kind []
 
 module _ (f : List ℕ) (same : ℕ → ℕ → Bool) where
-  one-item : (x y : ℕ) → eqb x y ≡ eqb x y && true
-  one-item x y = sym (and-true (eqb x y))
-
   link-items : (l m : ℕ) → sameLink same l m ≡ sameItem same (linkItem l) (linkItem m) && true
   unfolding sameLink
   link-items zero zero = refl
@@ -174,50 +172,52 @@ module _ (f : List ℕ) (same : ℕ → ℕ → Bool) where
   unfolding sameInteger
   integer-items i j = simp (and-true, and-assoc)
 
-  like-items : (kind a b c d t u v w : ℕ) → kind < 17
+  like-items : (a b c d t u v w kind : ℕ) → kind < 17
       → likeBy f same false (shapeOf kind a b c d) t u v w ≡ sameItems same (itemsOf f kind a b c d) (itemsOf f kind t u v w)
   unfolding likeBy shapeOf itemsOf
-  like-items zero a b c d t u v w h = refl
-  like-items (suc zero) a b c d t u v w h = one-item a t
-  like-items (suc (suc zero)) a b c d t u v w h = one-item a t
-  like-items (suc (suc (suc zero))) a b c d t u v w h = one-item a t
-  like-items (suc (suc (suc (suc zero)))) a b c d t u v w h = one-item a t
-  like-items (suc (suc (suc (suc (suc zero))))) a b c d t u v w h = one-item a t
-  like-items (suc (suc (suc (suc (suc (suc zero)))))) a b c d t u v w h = one-item a t
-  like-items (suc (suc (suc (suc (suc (suc (suc zero))))))) a b c d t u v w h = one-item a t
-  like-items (suc (suc (suc (suc (suc (suc (suc (suc zero)))))))) a b c d t u v w h = one-item a t
-  like-items (suc (suc (suc (suc (suc (suc (suc (suc (suc zero))))))))) a b c d t u v w h = simp and-true
-  like-items (suc (suc (suc (suc (suc (suc (suc (suc (suc (suc zero)))))))))) a b c d t u v w h = link-items d w
-  like-items (suc (suc (suc (suc (suc (suc (suc (suc (suc (suc (suc zero))))))))))) a b c d t u v w h = run-items same (sameField f same) (fieldItems f) (λ i j. refl) field-items a b t u
-  like-items (suc (suc (suc (suc (suc (suc (suc (suc (suc (suc (suc (suc zero)))))))))))) a b c d t u v w h = ap (λ x. same a t && x) (run-items same (sameDimension f) (dimensionItems f) (λ i j. refl) dimension-items b c u v)
-  like-items (suc (suc (suc (suc (suc (suc (suc (suc (suc (suc (suc (suc (suc zero))))))))))))) a b c d t u v w h = simp (integer-items, and-true, and-assoc)
-  like-items (suc (suc (suc (suc (suc (suc (suc (suc (suc (suc (suc (suc (suc (suc zero)))))))))))))) a b c d t u v w h = one-item a t
-  like-items (suc (suc (suc (suc (suc (suc (suc (suc (suc (suc (suc (suc (suc (suc (suc zero))))))))))))))) a b c d t u v w h = one-item a t
-  like-items (suc (suc (suc (suc (suc (suc (suc (suc (suc (suc (suc (suc (suc (suc (suc (suc zero)))))))))))))))) a b c d t u v w h = sym (and-true (same a t))
-  like-items (suc (suc (suc (suc (suc (suc (suc (suc (suc (suc (suc (suc (suc (suc (suc (suc (suc kind))))))))))))))))) a b c d t u v w h = absurd (omega arith)
+  like-items a b c d t u v w =
+      by-kind 17 (λ k. k < 17 → likeBy f same false (shapeOf k a b c d) t u v w ≡ sameItems same (itemsOf f k a b c d) (itemsOf f k t u v w))
+      (λ h. refl)
+      one one one one one one one one
+      (λ h. simp and-true)
+      (λ h. link-items d w)
+      (λ h. run-items same (sameField f same) (fieldItems f) (λ i j. refl) field-items a b t u)
+      (λ h. ap (λ x. same a t && x) (run-items same (sameDimension f) (dimensionItems f) (λ i j. refl) dimension-items b c u v))
+      (λ h. simp (integer-items, and-true, and-assoc))
+      one one
+      (λ h. sym (and-true (same a t)))
+      (λ k h. absurd (omega arith))
+    where
+      one : {n : ℕ} → n < 17 → eqb a t ≡ eqb a t && true
+      one h = sym (and-true (eqb a t))
 
 -- ---- shapes inside have lower numbers
-inside-shape : (f : List ℕ) (n kind a b c d : ℕ) → shapePoints f n kind a b c d ≡ true → (kind < 17) × Inside (λ i. i < n) (itemsOf f kind a b c d)
-unfolding shapePoints itemsOf
-inside-shape f n zero a b c d r = (omega arith, tt)
-inside-shape f n (suc zero) a b c d r = (omega arith, tt)
-inside-shape f n (suc (suc zero)) a b c d r = (omega arith, tt)
-inside-shape f n (suc (suc (suc zero))) a b c d r = (omega arith, tt)
-inside-shape f n (suc (suc (suc (suc zero)))) a b c d r = (omega arith, tt)
-inside-shape f n (suc (suc (suc (suc (suc zero))))) a b c d r = (omega arith, tt)
-inside-shape f n (suc (suc (suc (suc (suc (suc zero)))))) a b c d r = (omega arith, tt)
-inside-shape f n (suc (suc (suc (suc (suc (suc (suc zero))))))) a b c d r = (omega arith, tt)
-inside-shape f n (suc (suc (suc (suc (suc (suc (suc (suc zero)))))))) a b c d r = (omega arith, tt)
-inside-shape f n (suc (suc (suc (suc (suc (suc (suc (suc (suc zero))))))))) a b c d r = (omega arith, tt)
-inside-shape f n (suc (suc (suc (suc (suc (suc (suc (suc (suc (suc zero)))))))))) a b c zero r = (omega arith, tt)
-inside-shape f n (suc (suc (suc (suc (suc (suc (suc (suc (suc (suc zero)))))))))) a b c (suc i) r = (omega arith, (leb-true (suc i) n (both (runIn f members a b) (leb (suc i) n) r .1), tt))
-inside-shape f n (suc (suc (suc (suc (suc (suc (suc (suc (suc (suc (suc zero))))))))))) a b c d r = (omega arith, inside-run (λ i. i < n) (fieldItems f) a b (λ k l h. (lower-fields f n a b r k l h, tt)))
-inside-shape f n (suc (suc (suc (suc (suc (suc (suc (suc (suc (suc (suc (suc zero)))))))))))) a b c d r = (omega arith, (ltb-true a n (both (ltb a n) (runIn f dimensions b c) (both _ (not (eqb c 0)) r .0) .0), inside-run (λ i. i < n) (dimensionItems f) b c (λ k l h. tt)))
-inside-shape f n (suc (suc (suc (suc (suc (suc (suc (suc (suc (suc (suc (suc (suc zero))))))))))))) a b c d r = (omega arith, (ltb-true a n (both (ltb a n) (constantIn f 1 b) (both _ (constantIn f 1 c) r .0) .0), tt))
-inside-shape f n (suc (suc (suc (suc (suc (suc (suc (suc (suc (suc (suc (suc (suc (suc zero)))))))))))))) a b c d r = (omega arith, tt)
-inside-shape f n (suc (suc (suc (suc (suc (suc (suc (suc (suc (suc (suc (suc (suc (suc (suc zero))))))))))))))) a b c d r = (omega arith, tt)
-inside-shape f n (suc (suc (suc (suc (suc (suc (suc (suc (suc (suc (suc (suc (suc (suc (suc (suc zero)))))))))))))))) a b c d r = (omega arith, (ltb-true a n r, tt))
-inside-shape f n (suc (suc (suc (suc (suc (suc (suc (suc (suc (suc (suc (suc (suc (suc (suc (suc (suc kind))))))))))))))))) a b c d r = never r
+inside-shape : (f : List ℕ) (n a b c d kind : ℕ) → ShapePointed f n (shapeOf kind a b c d) → (kind < 17) × Inside (λ i. i < n) (itemsOf f kind a b c d)
+unfolding shapeOf itemsOf
+inside-shape f n a b c d =
+    by-kind 17 (λ k. ShapePointed f n (shapeOf k a b c d) → (k < 17) × Inside (λ i. i < n) (itemsOf f k a b c d))
+    (λ p. (omega arith, tt))
+    (λ p. (omega arith, tt))
+    (λ p. (omega arith, tt))
+    (λ p. (omega arith, tt))
+    (λ p. (omega arith, tt))
+    (λ p. (omega arith, tt))
+    (λ p. (omega arith, tt))
+    (λ p. (omega arith, tt))
+    (λ p. (omega arith, tt))
+    (λ p. (omega arith, tt))
+    (λ p. (omega arith, underlying d (p .1)))
+    (λ p. (omega arith, inside-run (λ i. i < n) (fieldItems f) a b (λ k l h. (run-at (λ k. word f shapeFields k 1 < n) a b (p .1) k l h, tt))))
+    (λ p. (omega arith, (p .0, inside-run (λ i. i < n) (dimensionItems f) b c (λ k l h. tt))))
+    (λ p. (omega arith, (p .0, tt)))
+    (λ p. (omega arith, tt))
+    (λ p. (omega arith, tt))
+    (λ p. (omega arith, (p, tt)))
+    (λ k p. absurd p)
+  where
+    underlying : (d : ℕ) → Link (λ s. s < n) d → Inside (λ i. i < n) (linkItem d ∷ [])
+    underlying zero l = tt
+    underlying (suc i) l = (l, tt)
 
 abbrev shapeItems : List ℕ → ℕ → List Item
 shapeItems f n = plain (word f shapes n 0) ∷ itemsOf f (word f shapes n 0) (word f shapes n 1) (word f shapes n 2) (word f shapes n 3) (word f shapes n 4)
@@ -225,9 +225,8 @@ shapeItems f n = plain (word f shapes n 0) ∷ itemsOf f (word f shapes n 0) (wo
 -- ---- an accepted file
 module _ (f : List ℕ) (a : Accepted f) where
   lower : (n : ℕ) → n < count f shapes → (word f shapes n 0 < 17) × Inside (λ i. i < n) (shapeItems f n)
-  unfolding pointRules
-  lower n h =
-      inside-shape f n (word f shapes n 0) (word f shapes n 1) (word f shapes n 2) (word f shapes n 3) (word f shapes n 4) (point-rule f a shapes n (lit< tt) h)
+  unfolding shapeAt
+  lower n h = inside-shape f n (word f shapes n 1) (word f shapes n 2) (word f shapes n 3) (word f shapes n 4) (word f shapes n 0) (shape-pointed f a n h)
 
   like-is : (same : ℕ → ℕ → Bool) (m n : ℕ) → m < count f shapes → shapesLike f same false m n ≡ sameItems same (shapeItems f m) (shapeItems f n)
   unfolding shapesLike shapeAt
@@ -241,7 +240,7 @@ module _ (f : List ℕ) (a : Accepted f) where
           (itemsOf f (word f shapes n 0) (word f shapes n 1) (word f shapes n 2) (word f shapes n 3) (word f shapes n 4))
       go true q =
           let e : word f shapes n 0 ≡ word f shapes m 0 = sym (eqb-true (word f shapes m 0) (word f shapes n 0) q) in
-          rw e (like-items f same (word f shapes m 0) _ _ _ _ _ _ _ _ (lower m h .0))
+          rw e (like-items f same _ _ _ _ _ _ _ _ (word f shapes m 0) (lower m h .0))
       go false q = refl
 
   -- two comparisons that agree below two shapes agree on them

@@ -7,12 +7,12 @@ use native.Mathlib.Omega.{arith}
 use lib.Dec.{eqb}
 use borrow.Author.Tests.{eqb-true, ne-eqb}
 use Rattle.definition.specs.declared.records.Declaration.the-variants as decl
-use Rattle.definition.specs.Base.{inline}
+use Rattle.definition.specs.Base.{onLink, inline}
 use Rattle.definition.specs.Layout.{types, blockFields, elements, variables, initializers, count, word}
 use Rattle.definition.specs.Records.{aliasBase, elementType, referencedType, declarationKind, declarationOf, declarationAt, namedType, initializerKind, initializerOf, initializerAt}
-use Rattle.definition.specs.Accept.{runIn, nameIn, declarationPoints, blockPoints}
+use Rattle.definition.specs.Accept.{numberIn, runIn, nameIn, declarationPoints, blockPoints}
 use Rattle.definition.specs.Uses.{linked, namedUse, initializerUses, elementUses, variableUses, blockFieldUses, declarationUses, blockUses, uses}
-use Rattle.laws.specs.Cases.{both, either, on-pick}
+use Rattle.laws.specs.Cases.{both, either, by-kind, on-pick}
 use Rattle.laws.specs.Every.{Each}
 use Rattle.laws.specs.Links.{Link, each-join, each-name, linked-each, name-each, uses-apart, uses-join, initializer-apart, Naming}
 use Rattle.laws.specs.Pointed.{DeclarationPointed, declaration-pointed}
@@ -77,29 +77,34 @@ module _ (f : List ℕ) (a : Accepted f) where
   spelled-inside : (w : ℕ) (b : Bool) → nameIn f true w && b ≡ true → Each (IsType f) (namedUse w)
   spelled-inside w b e = name-each (IsType f) w (name-in f true w (both (nameIn f true w) b e .0))
 
-  declared-inside : (t kind name start first many : ℕ) → declarationPoints f kind name start first many ≡ true
+  declared-inside : (t name start first many kind : ℕ) → declarationPoints f kind name start first many ≡ true
       → Each (IsType f) (declarationUses f t (declarationOf kind name start first many))
   unfolding declarationPoints declarationOf declarationUses
-  declared-inside t zero name start first many e = tt
-  declared-inside t (suc zero) name zero first many e = tt
-  declared-inside t (suc zero) name (suc i) first many e = initializer-inside i (number-in f initializers i e)
-  declared-inside t (suc (suc zero)) name start first many e = spelled-inside name _ e
-  declared-inside t (suc (suc (suc zero))) name start first many e = tt
-  declared-inside t (suc (suc (suc (suc zero)))) name start first many e = spelled-inside name _ e
-  declared-inside t (suc (suc (suc (suc (suc zero))))) name start first many e = elements-inside first many (run-in f elements first many e)
-  declared-inside t (suc (suc (suc (suc (suc (suc zero)))))) name start first many e =
-      on-pick (Each (IsType f)) (eqb name (referencedType f t)) [] (linked name) (λ q. tt) (λ q. linked-each (IsType f) name (name-link f name e))
-  declared-inside t (suc (suc (suc (suc (suc (suc (suc zero))))))) name start first many e = linked-each (IsType f) name (name-link f name e)
-  declared-inside t (suc (suc (suc (suc (suc (suc (suc (suc zero)))))))) name start first many e = linked-each (IsType f) name (name-link f name e)
-  declared-inside t (suc (suc (suc (suc (suc (suc (suc (suc (suc zero))))))))) name start first many e = variables-inside first many (run-in f variables first many e)
-  declared-inside t (suc (suc (suc (suc (suc (suc (suc (suc (suc (suc kind)))))))))) name start first many e = tt
+  declared-inside t name start first many =
+      by-kind 10
+      (λ k. declarationPoints f k name start first many ≡ true → Each (IsType f) (declarationUses f t (declarationOf k name start first many)))
+      (λ e. tt)
+      (λ e. alias start e)
+      (λ e. spelled-inside name _ e)
+      (λ e. tt)
+      (λ e. spelled-inside name _ e)
+      (λ e. elements-inside first many (run-in f elements first many e))
+      (λ e. on-pick (Each (IsType f)) (eqb name (referencedType f t)) [] (linked name) (λ q. tt) (λ q. linked-each (IsType f) name (name-link f name e)))
+      (λ e. linked-each (IsType f) name (name-link f name e))
+      (λ e. linked-each (IsType f) name (name-link f name e))
+      (λ e. variables-inside first many (run-in f variables first many e))
+      (λ k e. tt)
+    where
+      alias : (start : ℕ) → onLink start false (numberIn f initializers) ≡ true → Each (IsType f) (declarationUses f t (decl.Simple start))
+      alias zero e = tt
+      alias (suc i) e = initializer-inside i (number-in f initializers i e)
 
   pub uses-inside : (t : ℕ) → t < count f types → Each (IsType f) (uses f t)
   unfolding aliasBase elementType declarationAt declarationKind blockUses
   uses-inside t h =
       let p = type-points f a t h in
       uses-join (IsType f) f t (link-in f types (aliasBase f t) (p .alias)) (link-in f types (elementType f t) (p .element))
-      (declared-inside t (word f types t 4) (word f types t 5) (word f types t 6) (word f types t 7) (word f types t 8) (p .declared))
+      (declared-inside t (word f types t 5) (word f types t 6) (word f types t 7) (word f types t 8) (word f types t 4) (p .declared))
       (block-inside (word f types t 9) (word f types t 10) (p .block))
 
   -- the initializer of an alias
