@@ -14,6 +14,7 @@ use Rattle.definition.specs.Layout.{limitsOfRecords, mostRecords, count, word, 
 use Rattle.definition.specs.Records.{shapeAt, entryAt}
 use Rattle.definition.specs.Depth.{deepest, entryDepthFrom, entryDepthUpTo, entryDepth, shapeDepthFrom, shapeDepthUpTo, shapeDepth, levels}
 use Rattle.definition.specs.Answers.{checkWords, resolverWords, writerWords}
+use Rattle.laws.specs.Lower.{fuel, from-lower}
 use Rattle.laws.specs.Accepted.{Accepted, count-most, few-types}
 use Rattle.laws.specs.Pointed.{run-at, InArray, InMembers, ShapePointed, EntryPointed, shape-pointed, entry-pointed}
 
@@ -79,15 +80,14 @@ module _ {n : ℕ} {from : (ℕ → ℕ) → ℕ} where
 -- ---- every record of a section
 module _ (many : ℕ) (from : ℕ → (ℕ → ℕ) → ℕ) (upTo : ℕ → ℕ → ℕ) (steps : (n : ℕ) → n < many → Step n (from n))
     (next : (k n : ℕ) → upTo (suc k) n ≡ from n (upTo k)) where
-  -- as soon as it suffices, fuel does not matter
-  fuel : (k m n : ℕ) → n < k → n < m → n < many → upTo k n ≡ upTo m n
-  fuel zero m n h l i = absurd (omega arith)
-  fuel (suc k) zero n h l i = absurd (omega arith)
-  fuel (suc k) (suc m) n h l i =
-      next k n ∙ step-same (steps n i) (upTo k) (upTo m) (λ j b. fuel k m j (omega arith) (omega arith) (omega arith)) ∙ sym (next m n)
+  same : (n : ℕ) → n < many → (d g : ℕ → ℕ) → ((i : ℕ) → i < n → d i ≡ g i) → from n d ≡ from n g
+  same n i d g e = step-same (steps n i) d g e
+
+  depth-fuel : (k m n : ℕ) → n < k → n < m → n < many → upTo k n ≡ upTo m n
+  depth-fuel = fuel many from upTo same next
 
   depth-is : (n : ℕ) → n < many → upTo (suc n) n ≡ from n (λ j. upTo (suc j) j)
-  depth-is n i = next n n ∙ step-same (steps n i) (upTo n) (λ j. upTo (suc j) j) (λ j b. fuel n (suc j) j b (omega arith) (omega arith))
+  depth-is = from-lower many from upTo same next
 
   depth-most : (n : ℕ) → n < many → upTo (suc n) n ≤ suc n
   depth-most n i = go (suc n) n (omega arith) i
@@ -151,11 +151,11 @@ module _ (f : List ℕ) (a : Accepted f) where
 
   pub entry-depth-upTo : (k e : ℕ) → e < k → e < count f entries → entryDepthUpTo f k e ≡ entryDepth f e
   unfolding entryDepth
-  entry-depth-upTo k e h i = fuel (count f entries) (λ e below. entryDepthFrom below (entryAt f e)) (entryDepthUpTo f) entry-steps next-entry k (suc e) e h (omega arith) i
+  entry-depth-upTo k e h i = depth-fuel (count f entries) (λ e below. entryDepthFrom below (entryAt f e)) (entryDepthUpTo f) entry-steps next-entry k (suc e) e h (omega arith) i
 
   pub shape-depth-upTo : (k n : ℕ) → n < k → n < count f shapes → shapeDepthUpTo f k n ≡ shapeDepth f n
   unfolding shapeDepth
-  shape-depth-upTo k n h i = fuel (count f shapes) (λ n below. shapeDepthFrom f below (shapeAt f n)) (shapeDepthUpTo f) shape-steps next-shape k (suc n) n h (omega arith) i
+  shape-depth-upTo k n h i = depth-fuel (count f shapes) (λ n below. shapeDepthFrom f below (shapeAt f n)) (shapeDepthUpTo f) shape-steps next-shape k (suc n) n h (omega arith) i
 
   -- a depth is one more than those of what it points to
   pub entry-depth-is : (e : ℕ) → e < count f entries → entryDepth f e ≡ entryDepthFrom (entryDepth f) (entryAt f e)

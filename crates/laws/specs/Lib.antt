@@ -3,12 +3,14 @@
 -- ---- small things
 pub mod Cases
 pub mod Every
+pub mod Lower
 -- ---- computations that ask, and how they are answered
 pub mod Asks
 pub mod Binds
 pub mod Memo
 pub mod Resolving
 pub mod Peeking
+pub mod Steps
 pub mod Ranked
 pub mod Held
 pub mod Outcomes
@@ -33,6 +35,8 @@ pub mod Used
 pub mod Falling
 pub mod Completes
 pub mod Sizes
+pub mod Decoded
+pub mod Implicit
 pub mod Depths
 pub mod SameShapes
 -- ---- sheets

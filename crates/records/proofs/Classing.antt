@@ -14,11 +14,11 @@ use Rattle.records.specs.Tables.{tableOf, Filled, table-at}
 use Rattle.records.specs.Classes.{shapeClass, classesOf, Classes, next-class, by-class}
 use Rattle.records.proofs.Filling.{filled-part}
 
-module _ (f : List ℕ) {n : ℕ} {old words : List ℕ} (i : Filled (shapeClass f) n old words) where
+module _ (f : List ℕ) {n : ℕ} {lent words : List ℕ} (i : Filled (shapeClass f) n lent words) where
   pub class-next : Accepted f → n < count f shapes → {r : ℕ} → r ≡ firstLike f (take n words) false n → r ≡ shapeClass f n
   class-next a h e = e ∙ rw (filled-part i) (next-class f a (tableOf (shapeClass f) n) n h (λ k l. table-at (shapeClass f) n k k l))
 
-  pub classes-filled : {m : ℕ} → m ≡ count f shapes → n ≤ m → m ≤ n → words ≡ classesOf f ++ drop (count f shapes) old
+  pub classes-filled : {m : ℕ} → m ≡ count f shapes → n ≤ m → m ≤ n → words ≡ classesOf f ++ drop (count f shapes) lent
   unfolding classesOf
   classes-filled q h l = let e : count f shapes ≡ n = omega arith in rw e (i .is)
 

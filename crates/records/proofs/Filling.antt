@@ -9,25 +9,25 @@ use lib.Seq.{drop-cons, append-snoc, set-at, take-at, drop-at}
 use borrow.Author.Needs.{needs}
 use Rattle.records.specs.Tables.{tableOf, Filled, table-length}
 
-pub none-filled : (g : ℕ → ℕ) (old : List ℕ) → Filled g 0 old old
+pub none-filled : (g : ℕ → ℕ) (lent : List ℕ) → Filled g 0 lent lent
 unfolding tableOf
-none-filled g old = record { room = omega arith; is = refl }
+none-filled g lent = record { room = omega arith; is = refl }
 
-module _ {g : ℕ → ℕ} {n : ℕ} {old words : List ℕ} (i : Filled g n old words) where
-  pub one-filled : n < length old → {v : ℕ} → v ≡ g n → Filled g (n + 1) old (set words n v)
+module _ {g : ℕ → ℕ} {n : ℕ} {lent words : List ℕ} (i : Filled g n lent words) where
+  pub one-filled : n < length lent → {v : ℕ} → v ≡ g n → Filled g (n + 1) lent (set words n v)
   unfolding tableOf
   one-filled l {v} e =
       record {
         room = omega arith;
         is =
-            rw (i .is, drop-cons old n 0 l, set-at (tableOf g n) (getD old n 0) (drop (suc n) old) v n (table-length g n), add-one, e)
-            (sym (append-snoc (tableOf g n) (g n) (drop (suc n) old)));
+            rw (i .is, drop-cons lent n 0 l, set-at (tableOf g n) (getD lent n 0) (drop (suc n) lent) v n (table-length g n), add-one, e)
+            (sym (append-snoc (tableOf g n) (g n) (drop (suc n) lent)));
       }
 
   pub filled-part : take n words ≡ tableOf g n
-  filled-part = ap (take n) (i .is) ∙ take-at (tableOf g n) (drop n old) n (table-length g n)
+  filled-part = ap (take n) (i .is) ∙ take-at (tableOf g n) (drop n lent) n (table-length g n)
 
-  pub all-filled : (m : ℕ) → n ≤ m → m ≤ n → Filled g m old words
+  pub all-filled : (m : ℕ) → n ≤ m → m ≤ n → Filled g m lent words
   all-filled m h l = let e : m ≡ n = omega arith in rw e i
 
 -- ---- words that were 0, filled and then set to 0 again
@@ -40,11 +40,11 @@ zeros-back : (n rest : ℕ) → tableOf (λ k. 0) n ++ drop n (replicate (n + re
 zeros-back n rest =
     rw (zeros n, ← replicate-append-replicate {A = ℕ} n rest 0, drop-at {A = ℕ} (replicate n 0) (replicate rest 0) n (length-replicate n 0))
 
-pub filled-again : {g : ℕ → ℕ} {n : ℕ} {old words last : List ℕ} → Filled g n old words → Filled (λ k. 0) n words last → old ≡ replicate (length old) 0 → last ≡ old
-filled-again {g} {n} {old} {words} {last} i j z =
-    let e : n + (length old - n) ≡ length old = omega (arith, i .room) in
-    let d : drop n words ≡ drop n old = ap (drop n) (i .is) ∙ drop-at (tableOf g n) (drop n old) n (table-length g n) in
-    let b : tableOf (λ k. 0) n ++ drop n (replicate (length old) 0) ≡ replicate (length old) 0 = rw e at (zeros-back n (length old - n)) in
+pub filled-again : {g : ℕ → ℕ} {n : ℕ} {lent words last : List ℕ} → Filled g n lent words → Filled (λ k. 0) n words last → lent ≡ replicate (length lent) 0 → last ≡ lent
+filled-again {g} {n} {lent} {words} {last} i j z =
+    let e : n + (length lent - n) ≡ length lent = omega (arith, i .room) in
+    let d : drop n words ≡ drop n lent = ap (drop n) (i .is) ∙ drop-at (tableOf g n) (drop n lent) n (table-length g n) in
+    let b : tableOf (λ k. 0) n ++ drop n (replicate (length lent) 0) ≡ replicate (length lent) 0 = rw e at (zeros-back n (length lent - n)) in
     j .is ∙ rw d (rw z b)
 
 pub ruleset filling = (needs, none-filled, one-filled, all-filled)

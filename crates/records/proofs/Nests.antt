@@ -153,7 +153,7 @@ unfolding countOf depthOf depthFrom
 from-lower {f} a Entries below n h q = entry-depth-from f a below n h q
 from-lower {f} a Shapes below n h q = shape-depth-from f a below n h q
 
-module _ {f : List ℕ} (a : Accepted f) (nesting : Nesting) {n : ℕ} {old words : List ℕ} (i : Filled (depthOf f nesting) n old words) where
+module _ {f : List ℕ} (a : Accepted f) (nesting : Nesting) {n : ℕ} {lent words : List ℕ} (i : Filled (depthOf f nesting) n lent words) where
   pub shallow-part : n ≤ countOf f nesting → Shallow (take n words)
   shallow-part l = rw (filled-part i) (record { most = λ k. go k (ltb k n) refl })
     where
@@ -185,10 +185,10 @@ module _ (f : List ℕ) {a b : ℕ} (e : a ≡ deepest (depthOf f Entries) 0 (co
   unfolding levels depthOf countOf
   levels-fit k = omega (arith, levels-are, levels-most f k)
 
-pub still-room : {k : ℕ} {old words : List ℕ} → words ≡ old → k ≤ length old → k ≤ length words
+pub still-room : {k : ℕ} {lent words : List ℕ} → words ≡ lent → k ≤ length lent → k ≤ length words
 still-room e h = rw e h
 
-pub still-zero : {old words : List ℕ} → words ≡ old → old ≡ replicate (length old) 0 → words ≡ replicate (length words) 0
+pub still-zero : {lent words : List ℕ} → words ≡ lent → lent ≡ replicate (length lent) 0 → words ≡ replicate (length words) 0
 still-zero e h = rw e h
 
 pub ruleset nests =

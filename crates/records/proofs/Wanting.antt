@@ -20,9 +20,9 @@ use Rattle.laws.specs.Accepted.{Accepted, accepted, few-types}
 
 -- ---- the sums
 module _ (f : List ℕ) where
-  pub lineless-is : {s t e deep : ℕ} → s ≡ count f shapes → t ≡ count f types → e ≡ count f entries → deep ≡ levels f → deep * 24576 + s + t + e ≡ checkWords f
+  pub besides-lines-are : {s t e deep : ℕ} → s ≡ count f shapes → t ≡ count f types → e ≡ count f entries → deep ≡ levels f → deep * 24576 + s + t + e ≡ checkWords f
   unfolding checkWords
-  lineless-is p q r d = rw (p, q, r, d)
+  besides-lines-are p q r d = rw (p, q, r, d)
 
   pub wanted-is : (out : ℕ) {t w lines : ℕ} → t ≡ count f types → lines ≡ min out (t * 12291) → w ≡ checkWords f → w + lines ≡ writerWords f out
   unfolding writerWords
@@ -74,4 +74,4 @@ module _ (f : List ℕ) {r : WorkWords} where
   unfolding writerWords resolverWords
   with-lines e = e ∙ same-words f (writerWords f 12585984) (resolverWords f) (λ a. omega (arith, few-types f a))
 
-pub ruleset wanting = (needs, lineless-is, wanted-is, accepted-so, words-are, refused-are, without-lines, with-lines)
+pub ruleset wanting = (needs, besides-lines-are, wanted-is, accepted-so, words-are, refused-are, without-lines, with-lines)

@@ -14,7 +14,7 @@ use Rattle.records.specs.declared.depths.Run.the-variants.{Records, Fiel
 abbrev pub depthIn : List ℕ → ℕ → ℕ
 depthIn depths n = getD depths n 0
 
--- no depth of a table is greater than there are entries
+-- no depth of a table is greater than a file may have entries
 pub record Shallow (depths : List ℕ) : Type 0 where
   pub most : (n : ℕ) → depthIn depths n ≤ 8192
 

@@ -1,7 +1,7 @@
 -- A table: one value for each of so many records.
 use mathlib.Core.Path.{_≡_, refl, _∙_}
 use mathlib.Core.List.{List, [], _∷_, _++_}
-use Prim.Native.Nat.{ℕ, zero, suc, _+_, _≤_, _<_}
+use Prim.Native.Nat.{ℕ, zero, suc, _≤_, _<_}
 use native.Mathlib.Omega.{arith}
 use native.Mathlib.Decide.{ℕ-discrete}
 use lib.ListN.{length, drop, getD, length-append, List·getD-append}
@@ -29,7 +29,7 @@ module _ (g : ℕ → ℕ) where
           let b : k < length (tableOf g n) = omega (arith, table-length n) in
           List·getD-append (tableOf g n) (g n ∷ []) d k b ∙ ih l
 
--- so many words hold a table, and the others are as they were
-pub record Filled (g : ℕ → ℕ) (n : ℕ) (old words : List ℕ) : Type 0 where
-  pub room : n ≤ length old
-  pub is : words ≡ tableOf g n ++ drop n old
+-- so many of the words hold a table, and the others are as they were lent
+pub record Filled (g : ℕ → ℕ) (n : ℕ) (lent words : List ℕ) : Type 0 where
+  pub room : n ≤ length lent
+  pub is : words ≡ tableOf g n ++ drop n lent

@@ -43,8 +43,8 @@ fn lesser(a: usize, b: usize) -> usize
     b
 }
 
-// Without remembered lines.
-fn lineless(file: &[u32], sections: Sections) -> usize
+// All but the remembered lines.
+fn besides_lines(file: &[u32], sections: Sections) -> usize
     requires { ⌜ StartsOf (now file) (sections .starts) × Accepted (now file) ⌝ }
     ensures { λ r. ⌜ r ≡ checkWords (now (file .entry)) ⌝ }
 {
@@ -61,7 +61,7 @@ fn wanted(file: &[u32], sections: Sections, out: usize) -> usize
 {
     let types = count(file, sections, TYPES) as usize;
     let lines = lesser(out, types * LINE_WORDS);
-    lineless(file, sections) + lines
+    besides_lines(file, sections) + lines
 }
 
 // The words that the sheet writer wants, where its answer slice has `out` words.

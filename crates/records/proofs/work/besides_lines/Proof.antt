@@ -1,10 +1,10 @@
--- `work::lineless` meets its contract. Assumes nothing.
+-- `work::besides_lines` meets its contract. Assumes nothing.
 use Rattle.records.proofs.Wanting.{wanting}
-use Rattle.records.proofs.work.lineless.Statement.{statement}
-use Rattle.records.proofs.work.lineless.Tie as tie
+use Rattle.records.proofs.work.besides_lines.Statement.{statement}
+use Rattle.records.proofs.work.besides_lines.Tie as tie
 
-pub lineless-spec : {M : Type 1} → statement M
-lineless-spec =
+pub besides-lines-spec : {M : Type 1} → statement M
+besides-lines-spec =
     tie.close
     (tie.spec
     (λ c κs. search wanting)
