@@ -1,10 +1,15 @@
 -- The first refusal of 1 to 6: the tests before it hold, and its own fails. Assumes nothing.
-use mathlib.Core.Path.{_≡_}
+use mathlib.Core.Path.{_≡_, sym, _∙_}
 use mathlib.Core.Bool.{Bool, true, false}
 use mathlib.Core.List.{List}
-use Prim.Native.Nat.{ℕ}
+use Prim.Native.Nat.{ℕ, _≤_}
+use lib.Dec.{eqb, leb, lit<}
 use borrow.Author.Needs.{needs}
-use borrow.Author.Tests.{not-true, not-false}
+use borrow.Author.Tests.{not-true, not-false, leb-true}
+use Rattle.definition.specs.Base.{every}
+use Rattle.definition.specs.Layout.{settings, shapes, limitsOfRecords, mostRecords, count}
+use Rattle.laws.specs.Cases.{both}
+use Rattle.laws.specs.Every.{every-true}
 use Rattle.definition.specs.declared.answers.Acceptance.the-variants.{Accepted, Refused}
 use Rattle.definition.specs.Accept.{endsRight, countsRight, wordsRight, pointsRight, shapesDiffer, arraysSmall, verdict}
 use Rattle.definition.specs.Answers.{acceptAnswer}
@@ -42,5 +47,12 @@ module _ (f : List ℕ) {ends : Bool} (a : ends ≡ endsRight f) where
             pub accepts : small ≡ true → Accepted ≡ acceptAnswer f
             unfolding acceptAnswer verdict
             accepts h = rw (← a, i, ← b, j, ← c, k, ← d, l, ← e, m, ← g, h)
+
+-- what refusal 5 has room for
+pub few-shapes : (f : List ℕ) {counts : Bool} → counts ≡ countsRight f → counts ≡ true → count f shapes ≤ 1024
+unfolding countsRight mostRecords limitsOfRecords
+few-shapes f e h =
+    let r : every (λ s. leb (count f s) (mostRecords s)) 14 ≡ true = both (every (λ s. leb (count f s) (mostRecords s)) 14) (eqb (count f settings) 1) (sym e ∙ h) .0 in
+    leb-true (count f shapes) 1024 (every-true (λ s. leb (count f s) (mostRecords s)) 14 r shapes (lit< tt))
 
 pub ruleset accepting = (needs, not-true, not-false, refused-1, refused-2, refused-3, refused-4, refused-5, refused-6, accepts)

@@ -1,6 +1,6 @@
 -- Comparing shapes: classes, links, runs, and the lowest shape that is like another. Assumes nothing.
 use mathlib.Core.Path.{_≡_, refl, sym, _∙_}
-use mathlib.Core.Bool.{Bool, true, false, not, _&&_, and-true, and-false}
+use mathlib.Core.Bool.{Bool, true, false, and-true, and-false}
 use mathlib.Core.List.{List, [], _∷_}
 use Prim.Native.Nat.{ℕ, zero, suc, _+_, _-_, _<_, _≤_}
 use native.Mathlib.Omega.{arith}
@@ -13,10 +13,11 @@ use borrow.Author.Tests.{eq-eqb, ne-eqb, lt-ltb, le-ltb, ltb-true, ltb-false}
 use Rattle.definition.specs.Base.{pick, every}
 use Rattle.definition.specs.Layout.{shapes, members, word}
 use Rattle.definition.specs.Records.{shapeOf, shapeAt}
-use Rattle.definition.specs.Accept.{sameMember, sameField, sameDimension, listed, sameLink, likeBy, shapesLike, alike}
+use Rattle.definition.specs.Accept.{sameMember, sameField, sameDimension, listed, sameLink, likeBy, shapesLike}
+use Rattle.laws.specs.Cases.{never, by-kind}
 use Rattle.records.specs.declared.alike.Listing.{Listing}
 use Rattle.records.specs.declared.alike.Listing.the-variants.{Members, Fields, Dimensions}
-use Rattle.records.specs.Alike.{classIn, sameIn, sameListed, likeAt, wordsLike, membersLike, arrayLike, lowest, firstLike}
+use Rattle.records.specs.Alike.{classIn, sameIn, sameListed, likeAt, toldByFirst, wordsLike, membersLike, arrayLike, lowest}
 use Rattle.records.proofs.Listed.{more, agree-at, in-run, past}
 use Rattle.records.proofs.Scanning.{scans}
 
@@ -69,6 +70,28 @@ module _ (f classes : List ℕ) (listing : Listing) (m n : ℕ) {r : Bool} where
   unfolding sameListed
   by-dimensions e h = rw e h
 
+-- ---- kinds whose first word tells
+module _ {k : ℕ} where
+  pub told-bool : k ≡ 0 → false ≡ toldByFirst k
+  unfolding toldByFirst
+  told-bool e = rw e
+
+  pub told-sizes : (k ≡ 0 → ⊥) → k < 10 → true ≡ toldByFirst k
+  unfolding toldByFirst
+  told-sizes p h = in-run toldByFirst 1 9 k (more (omega arith) p) h (refl, (refl, (refl, (refl, (refl, (refl, (refl, (refl, (refl, tt))))))))) refl
+
+  pub told-inside : 10 ≤ k → k < 14 → false ≡ toldByFirst k
+  unfolding toldByFirst
+  told-inside l h = in-run toldByFirst 10 4 k l h (refl, (refl, (refl, (refl, tt)))) refl
+
+  pub told-names : 14 ≤ k → k < 16 → true ≡ toldByFirst k
+  unfolding toldByFirst
+  told-names l h = in-run toldByFirst 14 2 k l h (refl, (refl, tt)) refl
+
+  pub told-other : 16 ≤ k → false ≡ toldByFirst k
+  unfolding toldByFirst
+  told-other l = past toldByFirst 16 k l (λ j. refl)
+
 -- ---- shapes of one kind
 pub first-is : {a b c d : ℕ} → a ≡ b → c ≡ d → eqb a c ≡ eqb b d
 first-is e h = rw (e, h)
@@ -118,6 +141,21 @@ module _ (f classes : List ℕ) (enumerated : Bool) (m n : ℕ) where
           let l = ltb-true k 10 q in
           in-run (λ k. wordsLike f k m n) 1 8 k (more (omega arith) p) (omega (arith, o)) (refl, (refl, (refl, (refl, (refl, (refl, (refl, (refl, tt)))))))) e
       go false q = past (λ k. wordsLike f k m n) 10 k (ltb-false k 10 q) (λ j. e)
+
+  -- first words that differ, where they tell
+  first-tells : (word f shapes m 1 ≡ word f shapes n 1 → ⊥) → (k : ℕ) → toldByFirst k ≡ true → false ≡ likeAt f classes enumerated k m n
+  unfolding likeAt shapeOf likeBy toldByFirst
+  first-tells p =
+      by-kind 17 (λ k. toldByFirst k ≡ true → false ≡ likeAt f classes enumerated k m n) (λ z. never z) differ differ differ differ differ differ differ differ
+      (λ z. rw (ne-eqb (word f shapes m 1) (word f shapes n 1) p))
+      (λ z. never z) (λ z. never z) (λ z. never z) (λ z. never z) differ differ (λ z. never z) (λ k z. never z)
+    where
+      differ : true ≡ true → false ≡ eqb (word f shapes m 1) (word f shapes n 1)
+      differ z = sym (ne-eqb (word f shapes m 1) (word f shapes n 1) p)
+
+  pub told-apart : {k other own first : ℕ} → other ≡ word f shapes m 0 → k ≡ word f shapes n 0 → other ≡ k → {b : Bool} → b ≡ toldByFirst k → b ≡ true
+      → own ≡ word f shapes m 1 → first ≡ word f shapes n 1 → (own ≡ first → ⊥) → false ≡ shapesLike f (sameIn classes) enumerated m n
+  told-apart {k} e h q t b w v p = kinds-are e h q (first-tells (λ z. p (w ∙ z ∙ sym v)) k (sym t ∙ b))
 
   pub members-free : enumerated ≡ false → true ≡ membersLike f classes enumerated m n
   unfolding membersLike
@@ -170,37 +208,9 @@ module _ {p : ℕ → Bool} {n : ℕ} (i : None p n) {r : Bool} (e : r ≡ p n) 
 pub none-at-all : {p : ℕ → Bool} {n : ℕ} → None p n → (m : ℕ) → n ≤ m → m ≤ n → m ≡ lowest p m
 none-at-all {n = n} i m h l = let e : m ≡ n = omega arith in rw e (sym (i .far))
 
-lowest-most : (p : ℕ → Bool) (n : ℕ) → lowest p n ≤ n
-unfolding lowest
-lowest-most p zero = omega arith
-lowest-most p (suc n) = go (ltb (lowest p n) n) (p n) (lowest-most p n)
-  where
-    go : (b d : Bool) → lowest p n ≤ n → pick b (lowest p n) (pick d n (suc n)) ≤ suc n
-    go true d h = omega arith
-    go false true h = omega arith
-    go false false h = omega arith
-
-none-is : (p : ℕ → Bool) (n : ℕ) → eqb (lowest p n) n ≡ every (λ m. not (p m)) n
-unfolding lowest every
-none-is p zero = refl
-none-is p (suc n) = go (ltb (lowest p n) n) (p n) refl refl (lowest-most p n) (none-is p n)
-  where
-    go : (b d : Bool) → ltb (lowest p n) n ≡ b → p n ≡ d → lowest p n ≤ n → eqb (lowest p n) n ≡ every (λ m. not (p m)) n
-        → eqb (pick b (lowest p n) (pick d n (suc n))) (suc n) ≡ every (λ m. not (p m)) n && not d
-    go true d q w h ih =
-        let l = ltb-true (lowest p n) n q in
-        rw (← ih, ne-eqb (lowest p n) n (λ e. omega arith), ne-eqb (lowest p n) (suc n) (λ e. omega arith))
-    go false true q w h ih = rw (ne-eqb n (suc n) (λ e. omega arith), and-false)
-    go false false q w h ih =
-        let l = ltb-false (lowest p n) n q in
-        let e : lowest p n ≡ n = omega arith in
-        rw (← ih, eq-eqb (lowest p n) n e, eq-eqb (suc n) (suc n) refl)
-
-pub differs : (f : List ℕ) (n : ℕ) {r : ℕ} → r ≡ firstLike f [] true n → eqb r n ≡ every (λ m. not (alike f m n)) n
-unfolding firstLike alike
-differs f n e = rw e (none-is (λ m. alike f m n) n)
-
 pub ruleset comparing =
-    (scans, link-none, link-one, link-both, runs-differ, runs-are, by-members, by-fields, by-dimensions, kinds-differ, kinds-are, by-sizes, by-names, by-target, no-kind, members-free, members-stop, members-go, array-stop, array-go)
+    (scans, link-none, link-one, link-both, runs-differ, runs-are, by-members, by-fields, by-dimensions, kinds-differ, kinds-are, told-apart, by-sizes, by-names, by-target, no-kind, members-free, members-stop, members-go, array-stop, array-go)
 
 pub ruleset lowests = (needs, none-below, not-here, found-here, none-at-all)
+
+pub ruleset telling = (told-bool, told-sizes, told-inside, told-names, told-other)

@@ -2,6 +2,7 @@ pub mod Accepting
 pub mod Classing
 pub mod Comparing
 pub mod Filling
+pub mod Keying
 pub mod Links
 pub mod Listed
 pub mod Multiplying

@@ -1,5 +1,5 @@
 -- Comparing shapes where those inside are compared by a number that stands for each, and the lowest shape that is like another.
-use mathlib.Core.Bool.{Bool, true, not, _&&_, _||_}
+use mathlib.Core.Bool.{Bool, true, false, not, _&&_, _||_}
 use mathlib.Core.List.{List, [], _∷_}
 use Prim.Native.Nat.{ℕ, zero, suc}
 use lib.Dec.{eqb, ltb}
@@ -35,6 +35,11 @@ unfoldable pub wordsLike : List ℕ → ℕ → ℕ → ℕ → Bool
 wordsLike f kind m n =
     let first : Bool = eqb (word f shapes m 1) (word f shapes n 1) in
     getD (true ∷ first ∷ first ∷ first ∷ first ∷ first ∷ first ∷ first ∷ first ∷ (first && eqb (word f shapes m 2) (word f shapes n 2)) ∷ []) kind first
+
+-- kinds whose shapes are told apart by their first word: bits, a string's length or a name
+unfoldable pub toldByFirst : ℕ → Bool
+toldByFirst kind =
+    getD (false ∷ true ∷ true ∷ true ∷ true ∷ true ∷ true ∷ true ∷ true ∷ true ∷ false ∷ false ∷ false ∷ false ∷ true ∷ true ∷ []) kind false
 
 -- whether members and default are the same, where they count
 unfoldable pub membersLike : List ℕ → List ℕ → Bool → ℕ → ℕ → Bool

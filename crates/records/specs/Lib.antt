@@ -1,5 +1,6 @@
 pub mod Alike
 pub mod Classes
+pub mod Keys
 pub mod Nesting
 pub mod Rules
 pub mod Starts

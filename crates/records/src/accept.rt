@@ -4,7 +4,7 @@ ghost use Rattle.definition.specs.Answers.{acceptAnswer};
 use crate::arrays::arrays_small;
 use crate::counts::counts_right;
 use crate::counts::ends_right;
-use crate::like::shapes_differ;
+use crate::differ::shapes_differ;
 use crate::scan::points_right;
 use crate::scan::words_right;
 use crate::words::find_sections;

@@ -1,20 +1,18 @@
-// Whether two shapes are like each other, and the lowest shape that is like one: refusal 5, and shape classes.
+// Whether two shapes are like each other, and the lowest shape that is like one.
 ghost use mathlib.Core.Path.{_≡_};
-ghost use mathlib.Core.Bool.{true, not};
+ghost use mathlib.Core.Bool.{true};
 ghost use Prim.Native.Nat.{_+_, _<_, _≤_};
 ghost use lib.Dec.{eqb};
-ghost use Rattle.definition.specs.Base.{every};
 ghost use Rattle.definition.specs.Layout as Layout;
 ghost use Rattle.definition.specs.Layout.{shapes};
-ghost use Rattle.definition.specs.Accept.{listed, sameInteger, shapesLike, alike, shapesDiffer};
+ghost use Rattle.definition.specs.Accept.{listed, sameInteger, shapesLike};
 ghost use Rattle.records.specs.Starts.{StartsOf};
-ghost use Rattle.records.specs.Alike.{sameIn, sameListed, likeAt, wordsLike, membersLike, arrayLike, firstLike};
+ghost use Rattle.records.specs.Alike.{sameIn, sameListed, likeAt, toldByFirst, wordsLike, membersLike, arrayLike, firstLike};
 use crate::alike::Listing;
 use crate::alike::same_in;
 use crate::alike::same_link;
 use crate::alike::same_run;
 use crate::words::Sections;
-use crate::words::count;
 use crate::words::word;
 use definition::layout::CONSTANTS;
 use definition::layout::SHAPES;
@@ -177,8 +175,8 @@ fn words_like(file: &[u32], sections: Sections, kind: u32, first: u32, m: u32, n
     }
 }
 
-// Most pairs are told apart by kind and words: those are compared apart from the others, which hand the sections on.
-fn shapes_like(
+// Shapes m and n of one kind.
+fn like(
     file: &[u32],
     sections: Sections,
     classes: &[u32],
@@ -188,13 +186,9 @@ fn shapes_like(
     m: u32,
     n: u32,
 ) -> bool
-    requires { ⌜ StartsOf (now file) (sections .starts) × (kind ≡ Layout.word (now file) shapes n 0) × (first ≡ Layout.word (now file) shapes n 1) ⌝ }
-    ensures { λ r. ⌜ r ≡ shapesLike (now (file .entry)) (sameIn (now (classes .entry))) enumerated m n ⌝ }
+    requires { ⌜ StartsOf (now file) (sections .starts) × (first ≡ Layout.word (now file) shapes n 1) ⌝ }
+    ensures { λ r. ⌜ r ≡ likeAt (now (file .entry)) (now (classes .entry)) enumerated kind m n ⌝ }
 {
-    let other = word(file, sections, SHAPES, m, 0);
-    if other != kind {
-        return false;
-    }
     match kind {
         16 => same_inside(file, sections, classes, m, n, 1),
         0..=9 => words_like(file, sections, kind, first, m, n),
@@ -202,6 +196,47 @@ fn shapes_like(
         14..=15 => words_like(file, sections, kind, first, m, n),
         _ => false,
     }
+}
+
+// Shapes of this kind are told apart by their first word: bits, a string's length or a name.
+pub fn told(kind: u32) -> bool
+    ensures { λ r. ⌜ r ≡ toldByFirst kind ⌝ }
+{
+    match kind {
+        0 => false,
+        1..=9 => true,
+        10..=13 => false,
+        14..=15 => true,
+        _ => false,
+    }
+}
+
+// Most pairs are told apart by kind and first word. The others are compared apart from these, since they hand the sections on.
+pub fn shapes_like(
+    file: &[u32],
+    sections: Sections,
+    classes: &[u32],
+    enumerated: bool,
+    kind: u32,
+    first: u32,
+    tells: bool,
+    m: u32,
+    n: u32,
+) -> bool
+    requires { ⌜ StartsOf (now file) (sections .starts) × (kind ≡ Layout.word (now file) shapes n 0) × (first ≡ Layout.word (now file) shapes n 1) × (tells ≡ toldByFirst kind) ⌝ }
+    ensures { λ r. ⌜ r ≡ shapesLike (now (file .entry)) (sameIn (now (classes .entry))) enumerated m n ⌝ }
+{
+    let other = word(file, sections, SHAPES, m, 0);
+    if other != kind {
+        return false;
+    }
+    if tells {
+        let own = word(file, sections, SHAPES, m, 1);
+        if own != first {
+            return false;
+        }
+    }
+    like(file, sections, classes, enumerated, kind, first, m, n)
 }
 
 // The lowest shape below n that is like it, or n.
@@ -217,31 +252,21 @@ pub fn first_like(
 {
     let kind = word(file, sections, SHAPES, n, 0);
     let first = word(file, sections, SHAPES, n, 1);
+    let tells = told(kind);
     for m in 0..n {
-        if shapes_like(file, sections, classes, enumerated, kind, first, m, n) {
+        if shapes_like(
+            file,
+            sections,
+            classes,
+            enumerated,
+            kind,
+            first,
+            tells,
+            m,
+            n,
+        ) {
             return m;
         }
     }
     n
-}
-
-fn shape_differs(file: &[u32], sections: Sections, n: u32) -> bool
-    requires { ⌜ StartsOf (now file) (sections .starts) ⌝ }
-    ensures { λ r. ⌜ r ≡ every (λ m. not (alike (now (file .entry)) m n)) n ⌝ }
-{
-    first_like(file, sections, &file[..0], true, n) == n
-}
-
-// Refusal 5: two shapes are alike.
-pub fn shapes_differ(file: &[u32], sections: Sections) -> bool
-    requires { ⌜ StartsOf (now file) (sections .starts) ⌝ }
-    ensures { λ r. ⌜ r ≡ shapesDiffer (now (file .entry)) ⌝ }
-{
-    let many = count(file, sections, SHAPES);
-    for n in 0..many {
-        if !shape_differs(file, sections, n) {
-            return false;
-        }
-    }
-    true
 }

@@ -40,6 +40,9 @@ fn report(what: &str, counts: &[u64; 7]) {
     println!("{what}: {all} files; verdicts 0 to 6: {counts:?}");
 }
 
+/// How often each of the two is run on the largest file, in turn.
+const REPEATED: usize = 100;
+
 /// Every section at its limit, with records that are allowed: 1,024 shapes
 /// that differ, and elsewhere records of zeros and names.
 fn largest() -> Vec<u32> {
@@ -65,13 +68,12 @@ fn largest() -> Vec<u32> {
     words
 }
 
-fn timed(run: impl Fn(&[u32]) -> u32, words: &[u32]) -> (u32, f64) {
+/// The least time of one call, of many.
+fn timed(run: impl Fn(&[u32]) -> u32, words: &[u32], least: &mut f64) -> u32 {
     let started = Instant::now();
-    let mut answer = 0;
-    for _ in 0..20 {
-        answer = run(words);
-    }
-    (answer, started.elapsed().as_secs_f64() / 20.0)
+    let answer = run(words);
+    *least = least.min(started.elapsed().as_secs_f64());
+    answer
 }
 
 fn main() {
@@ -97,8 +99,12 @@ fn main() {
     report("random", &random);
 
     let words = largest();
-    let (ours, our_time) = timed(accepted, &words);
-    let (theirs, their_time) = timed(verdict, &words);
+    let (mut ours, mut our_time) = (0, f64::MAX);
+    let (mut theirs, mut their_time) = (0, f64::MAX);
+    for _ in 0..REPEATED {
+        ours = timed(accepted, &words, &mut our_time);
+        theirs = timed(verdict, &words, &mut their_time);
+    }
     println!(
         "largest file, {} words: library {ours} in {:.3} ms, plain Rust {theirs} in {:.3} ms",
         words.len(),

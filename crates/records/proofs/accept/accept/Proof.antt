@@ -1,5 +1,7 @@
 -- `accept::accept` meets its contract. Assumes nothing.
-use Rattle.records.proofs.Accepting.{accepting}
+use borrow.Author.Needs.{needs}
+use borrow.Author.Tests.{not-false}
+use Rattle.records.proofs.Accepting.{accepting, few-shapes}
 use Rattle.records.proofs.accept.accept.Statement.{statement}
 use Rattle.records.proofs.accept.accept.Tie as tie
 
@@ -16,7 +18,7 @@ accept-spec =
     (λ c. search accepting)
     (λ c κs. search accepting)
     (λ c. search accepting)
-    (λ c κs. search accepting)
+    (λ c κs. (search needs, few-shapes _ (c .before .before .before .before .before .counts-right .ensures) (not-false _ (c .before .before .before .before .if2 .left))))
     (λ c. search accepting)
     (λ c κs. search accepting)
     (λ c. search accepting)

@@ -4,16 +4,16 @@ use Prim.Native.Nat.{_-_, _≤_}
 use Rattle.definition.specs.Layout.{shapes, word}
 use Rattle.definition.specs.Accept.{shapesLike}
 use Rattle.records.specs.Starts.{StartsOf}
-use Rattle.records.specs.Alike.{sameIn, firstLike}
+use Rattle.records.specs.Alike.{sameIn, toldByFirst, firstLike}
 use Rattle.records.proofs.Comparing.{None, lowests}
 use Rattle.records.proofs.like.first_like.Statement.{statement}
 use Rattle.records.proofs.like.first_like.Tie as tie
 
 abbrev Inv-loop : tie.InvT-loop
-Inv-loop file sections classes enumerated n kind first m₀ m = (m ≤ n) × (kind ≡ word file shapes n 0) × (first ≡ word file shapes n 1) × StartsOf file (sections .starts) × None (λ m. shapesLike file (sameIn classes) enumerated m n) m
+Inv-loop file sections classes enumerated n kind first tells m₀ m = (m ≤ n) × (kind ≡ word file shapes n 0) × (first ≡ word file shapes n 1) × (tells ≡ toldByFirst kind) × StartsOf file (sections .starts) × None (λ m. shapesLike file (sameIn classes) enumerated m n) m
 
 abbrev μ-loop : tie.MeasureT-loop
-μ-loop file sections classes enumerated n kind first m₀ m = n - m
+μ-loop file sections classes enumerated n kind first tells m₀ m = n - m
 
 pub first-like-spec : {M : Type 1} → statement M
 unfolding firstLike
@@ -24,6 +24,7 @@ first-like-spec =
     μ-loop
     (λ c κs. search lowests)
     (λ c κs. search lowests)
+    (λ c. search lowests)
     (λ c. search lowests)
     (λ c κs. search lowests)
     (λ c. search lowests)

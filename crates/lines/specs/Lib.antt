@@ -1,0 +1,4 @@
+pub mod Look
+pub mod Copy
+pub mod Append
+pub mod Memory
