@@ -14,7 +14,7 @@ use Rattle.laws.specs.Values.{Small}
 use Rattle.laws.specs.Gathers.{Gives}
 use Rattle.laws.specs.Meaning.{gives-declaration, body-asks}
 use Rattle.laws.specs.Accepted.{accepted, variable-points}
-use Rattle.laws.specs.Used.{IsType, uses-inside, named-use}
+use Rattle.laws.specs.Used.{IsType, uses-inside, named-use, leads-inside}
 
 -- ---- with neither acceptance nor ranks
 leads-any : (f : List ℕ) → Leads f (λ d. Unit {0}) (λ d. Unit {0})
@@ -32,13 +32,8 @@ abbrev pub Rises : List ℕ → (ℕ → ℕ) → Type 0
 Rises f rank = (t : ℕ) → t < count f types → Each (λ d. rank d < rank t) (uses f t)
 
 module _ (f : List ℕ) (e : verdict f ≡ 0) where
-  leads-inside : Leads f (IsType f) (IsType f)
-  leads-inside =
-      let a = accepted f e in
-      record { near = λ t p. p; steps = uses-inside f a; names = λ t i n q k. named-use f a (IsType f) t i n (uses-inside f a t n) q k }
-
   pub declaration-asks : (v : ℕ) → v < count f variables → Gives (λ d. d < count f types) Small (declaration f v)
-  declaration-asks v h = gives-declaration f (IsType f) (IsType f) leads-inside v (variable-points f (accepted f e) v h .0)
+  declaration-asks v h = gives-declaration f (IsType f) (IsType f) (leads-inside f (accepted f e)) v (variable-points f (accepted f e) v h .0)
 
   module _ (rank : ℕ → ℕ) (rises : Rises f rank) where
     -- what a type of at most this rank uses has a lower one

@@ -14,7 +14,7 @@ use Rattle.definition.specs.Accept.{numberIn, runIn, nameIn, declarationPoints,
 use Rattle.definition.specs.Uses.{linked, namedUse, initializerUses, elementUses, variableUses, blockFieldUses, declarationUses, blockUses, uses}
 use Rattle.laws.specs.Cases.{both, either, by-kind, on-pick}
 use Rattle.laws.specs.Every.{Each}
-use Rattle.laws.specs.Links.{Link, each-join, each-name, linked-each, name-each, uses-apart, uses-join, initializer-apart, Naming}
+use Rattle.laws.specs.Links.{Link, each-join, each-name, linked-each, name-each, uses-apart, uses-join, initializer-apart, Naming, Leads}
 use Rattle.laws.specs.Pointed.{DeclarationPointed, declaration-pointed}
 use Rattle.laws.specs.Accepted.{Accepted, few-types, number-in, link-in, run-in, name-in, name-link, type-points, initializer-points, element-points, block-field-points, variable-points}
 
@@ -126,3 +126,7 @@ module _ (f : List ℕ) (a : Accepted f) where
       small : (w : ℕ) → Link (IsType f) w → w ≡ inline → ⊥
       small zero l z = omega arith
       small (suc d) l z = omega (arith, few-types f a)
+
+  -- so the types of the file lead to types of the file
+  pub leads-inside : Leads f (IsType f) (IsType f)
+  leads-inside = record { near = λ t p. p; steps = uses-inside; names = λ t i n q k. named-use (IsType f) t i n (uses-inside t n) q k }

@@ -7,24 +7,18 @@ ghost use Rattle.definition.specs.Tree.{flatten, constantTree};
 ghost use Rattle.definition.specs.Scalar as scalar;
 ghost use Rattle.definition.specs.Records.{shapeAt, constantAt};
 ghost use Rattle.definition.specs.Answers.{over};
-ghost use Rattle.records.specs.Starts.{StartsOf};
 ghost use Rattle.scalar.specs.Node.{resultOf};
-ghost use Rattle.scalar.specs.Convert.{Bounds};
 ghost use Rattle.start_values.specs.Convert as Convert;
 ghost use Rattle.start_values.specs.Convert.{convertRefused, convertAnswer, convertWords, numberOf};
 use crate::wirkesu_accept;
 use definition::layout::CONSTANTS;
-use definition::layout::SETTINGS;
 use definition::layout::SHAPES;
 use definition::records::Constant;
-use definition::records::Shape;
+use places::values::converted;
 use records::view::constant_at;
 use records::view::shape_at;
-use records::words::Sections;
 use records::words::count;
 use records::words::find_sections;
-use records::words::word;
-use scalar::convert::convert;
 use scalar::node::Leaf;
 use scalar::node::node;
 
@@ -35,42 +29,6 @@ const REFUSED: u32 = 100;
 const NOT_THERE: u32 = 7;
 // The lent slice is shorter than the answer.
 const TOO_SHORT: u32 = 10;
-
-// The two bounds of a subrange.
-struct Range {
-    least: Constant,
-    greatest: Constant,
-}
-
-// A subrange's bounds are constants of the file; another shape has none, and any constant does.
-fn range_of(file: &[u32], sections: Sections, shape: Shape, any: Constant) -> Range
-    requires { ⌜ StartsOf (now file) (sections .starts) ⌝ }
-    ensures { λ r. ⌜ Bounds (now (file .entry)) shape (r .least) (r .greatest) ⌝ }
-{
-    match shape {
-        Shape::Subrange {
-            base: _,
-            least,
-            greatest,
-        } => Range {
-            least: constant_at(file, sections, least),
-            greatest: constant_at(file, sections, greatest),
-        },
-        _ => Range {
-            least: any,
-            greatest: any,
-        },
-    }
-}
-
-fn converted(file: &[u32], sections: Sections, shape: Shape, c: Constant) -> Leaf
-    requires { ⌜ StartsOf (now file) (sections .starts) ⌝ }
-    ensures { λ r. ⌜ resultOf r ≡ scalar.converted (now (file .entry)) shape c ⌝ }
-{
-    let setting = word(file, sections, SETTINGS, 0, 0);
-    let range = range_of(file, sections, shape, c);
-    convert(shape, c, range.least, range.greatest, setting)
-}
 
 fn value_at(file: &[u32], shape: u32, constant: u32) -> Leaf
     ensures { λ r. ⌜ resultOf r ≡ scalar.converted (now (file .entry)) (shapeAt (now (file .entry)) shape) (constantAt (now (file .entry)) constant) ⌝ }

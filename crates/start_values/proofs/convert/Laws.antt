@@ -1,5 +1,5 @@
 -- A law for each return of convert.rt. Assumes nothing.
-use mathlib.Core.Path.{_≡_, refl, _∙_}
+use mathlib.Core.Path.{_≡_, refl}
 use mathlib.Core.Bool.{Bool, true, false}
 use mathlib.Core.List.{List, [], _∷_}
 use Prim.Native.Nat.{ℕ, _+_, _^_, _≤_, _<_}
@@ -8,15 +8,11 @@ use lib.Dec.{eqb, leb, ltb}
 use lib.ListN.{length, getD, set, drop}
 use borrow.Author.Needs.{needs}
 use borrow.Author.Tests.{lt-ltb, le-ltb, le-leb, lt-leb, ne-eqb}
-use types.Run.{OneOf, miss}
-use denote.Enum.Declared.{tagOf}
-use Rattle.definition.proofs.records.Shape.{the-type}
 use Rattle.definition.specs.declared.records.Shape.{Shape}
-use Rattle.definition.specs.declared.records.Shape.the-variants as shape
 use Rattle.definition.specs.declared.records.Constant.{Constant}
 use Rattle.definition.specs.declared.answers.TreeAnswer.the-variants as tree
 use Rattle.definition.specs.Base.{pick, choose}
-use Rattle.definition.specs.Layout.{word, count, settings, shapes, constants}
+use Rattle.definition.specs.Layout.{word, count, shapes, constants}
 use Rattle.definition.specs.Records.{shapeAt, constantAt}
 use Rattle.definition.specs.Accept.{need, endsRight, countsRight, wordsRight, pointsRight, shapesDiffer, arraysSmall, verdict}
 use Rattle.definition.specs.Tree as tree-definition
@@ -27,26 +23,9 @@ use Rattle.definition.specs.Answers.{refusedFirst, over, treeAnswer, treeWords}
 use Rattle.scalar.specs.declared.node.Leaf.{Leaf}
 use Rattle.scalar.specs.declared.node.Leaf.the-variants as leaf
 use Rattle.scalar.specs.Node.{resultOf}
-use Rattle.scalar.specs.Convert.{Bounds, convertedBy, converted-is}
 use Rattle.start_values.specs.Convert.{there, convertRefused, valueAt, convertAnswer, convertWords, numberOf}
 
--- ---- `range_of`: the bounds of a subrange are two constants of the file
-pub subrange-bounds : (f : List ℕ) {s : Shape} {low high : Constant} {base least greatest : ℕ}
-    → s ≡ shape.Subrange base least greatest → low ≡ constantAt f least → high ≡ constantAt f greatest → Bounds f s low high
-subrange-bounds f e p q = record { of-subrange = λ b l g h. ((cc), (cc)) }
-
--- every shape but the subrange, by its tag
-abbrev unbounded : List ℕ
-unbounded = 0 ∷ 1 ∷ 2 ∷ 3 ∷ 4 ∷ 5 ∷ 6 ∷ 7 ∷ 8 ∷ 9 ∷ 10 ∷ 11 ∷ 12 ∷ 14 ∷ 15 ∷ 16 ∷ 17 ∷ []
-
-pub no-bounds : (f : List ℕ) (s : Shape) (c : Constant) → OneOf unbounded (tagOf the-type s) → Bounds f s c c
-no-bounds f s c h = record { of-subrange = λ b l g e. absurd (miss unbounded 13 tt (rw e at h)) }
-
--- ---- `converted` and `value_at`
-pub converted-in : (f : List ℕ) (s : Shape) (c : Constant) {low high : Constant} {setting : ℕ} {r : Result Constant}
-    → Bounds f s low high → setting ≡ word f settings 0 0 → r ≡ convertedBy s c low high setting → r ≡ converted f s c
-converted-in f s c {low} {high} b e k = k ∙ (rw e (converted-is f s c low high b))
-
+-- ---- `value_at`
 pub converted-at : (f : List ℕ) {s : Shape} {c : Constant} (n m : ℕ) {r : Result Constant}
     → s ≡ shapeAt f n → c ≡ constantAt f m → r ≡ converted f s c → r ≡ converted f (shapeAt f n) (constantAt f m)
 converted-at f n m p q k = rw (← p, ← q) k
@@ -162,4 +141,4 @@ module _ (f : List ℕ) (shape constant : ℕ) {n : ℕ} (is : n ≡ convertRefu
       unfolding convertWords valueAt constantValue asTree treeWords
       value-wrote out k = rw (← is, z, ← e, h) k
 
-pub ruleset conversions = (needs, subrange-bounds, no-bounds, converted-in, converted-at, both-there, not-there, refused-file, refused-nothing, refused-missing, refused-fits, no-room-says, no-room-keeps, room-says, room-wrote, refusal-says, refusal-keeps, none-says, none-keeps, value-says, value-wrote)
+pub ruleset conversions = (needs, converted-at, both-there, not-there, refused-file, refused-nothing, refused-missing, refused-fits, no-room-says, no-room-keeps, room-says, room-wrote, refusal-says, refusal-keeps, none-says, none-keeps, value-says, value-wrote)

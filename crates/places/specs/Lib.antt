@@ -1,0 +1,5 @@
+pub mod Found
+pub mod Inside
+pub mod Named
+pub mod Shapes
+pub mod Values
