@@ -175,21 +175,19 @@ module _ (f : List ℕ) (place : Place) where
     lower-as (shape.Reference target) r e = no-place p e
     lower-as shape.Unknown r e = absurd r
 
+-- ---- the places inside a place whose shape points below n
+module _ (f : List ℕ) (n : ℕ) (place : Place) (pointed : ShapePointed f n (place .shape)) where
+  inner-field : (name : ℕ) (p : Place) → fieldPlace f place name ≡ ok p → Lower f n p
+  unfolding fieldPlace
+  inner-field name p e = lower-as f place n name p (place .shape) pointed e
+
+  inner-element : (s first many : ℕ) → place .shape ≡ shape.Array s first many → Lower f n (elementPlace f place s)
+  inner-element s first many e =
+      let r : ShapePointed f n (shape.Array s first many) = subst (ShapePointed f n) e pointed in
+      λ z. (s, r .0, element-shape f place s)
+
 -- ---- an accepted file
 module _ (f : List ℕ) (a : Accepted f) where
-  module _ (n : ℕ) (h : n < count f shapes) (place : Place) (is : place .shape ≡ shapeAt f n) where
-    pointed : ShapePointed f n (place .shape)
-    pointed = subst (ShapePointed f n) (sym is) (shape-pointed f a n h)
-
-    inner-field : (name : ℕ) (p : Place) → fieldPlace f place name ≡ ok p → Lower f n p
-    unfolding fieldPlace
-    inner-field name p e = lower-as f place n name p (place .shape) pointed e
-
-    inner-element : (s first many : ℕ) → place .shape ≡ shape.Array s first many → Lower f n (elementPlace f place s)
-    inner-element s first many e =
-        let r : ShapePointed f n (shape.Array s first many) = subst (ShapePointed f n) e pointed in
-        λ z. (s, r .0, element-shape f place s)
-
   -- places start the same way where implicit defaults of lower shapes do
   same-default : (n k m : ℕ) → ((s : ℕ) → s < n → (p : Place) → p .shape ≡ shapeAt f s → implicitUpTo f k p ≡ implicitUpTo f m p)
       → (p : Place) → Lower f n p → defaultBy (implicitUpTo f k) p ≡ defaultBy (implicitUpTo f m) p
@@ -200,23 +198,22 @@ module _ (f : List ℕ) (a : Accepted f) where
       go zero e = let x = l e in ih (x .0) (x .1) p (x .2)
       go (suc t) e = refl
 
+  -- one level more on both sides
+  same-next : (n k m : ℕ) → ((s : ℕ) → s < n → (p : Place) → p .shape ≡ shapeAt f s → implicitUpTo f k p ≡ implicitUpTo f m p)
+      → (place : Place) → ShapePointed f n (place .shape) → implicitBy f (defaultBy (implicitUpTo f k)) place ≡ implicitBy f (defaultBy (implicitUpTo f m)) place
+  same-next n k m ih place i =
+      same-implicit f (Lower f n) (defaultBy (implicitUpTo f k)) (defaultBy (implicitUpTo f m)) (same-default n k m ih) place (inner-element f n place i) (inner-field f n place i)
+
   implicit-fuel : (k m n : ℕ) → n < k → n < m → n < count f shapes → (place : Place) → place .shape ≡ shapeAt f n → implicitUpTo f k place ≡ implicitUpTo f m place
   unfolding implicitUpTo
   implicit-fuel zero m n h l i place e = absurd (omega arith)
   implicit-fuel (suc k) zero n h l i place e = absurd (omega arith)
   implicit-fuel (suc k) (suc m) n h l i place e =
-      same-implicit f (Lower f n) (defaultBy (implicitUpTo f k)) (defaultBy (implicitUpTo f m))
-      (same-default n k m (λ s b p q. implicit-fuel k m s (omega arith) (omega arith) (omega arith) p q)) place (inner-element n i place e) (inner-field n i place e)
+      same-next n k m (λ s b p q. implicit-fuel k m s (omega arith) (omega arith) (omega arith) p q) place (subst (ShapePointed f n) (sym e) (shape-pointed f a n i))
 
-  -- the implicit default of a place, where the places inside start at their defaults
-  pub implicit-is : (n : ℕ) → n < count f shapes → (place : Place) → place .shape ≡ shapeAt f n → implicit f place ≡ implicitBy f (defaultOf f) place
+  -- the implicit default of a place whose shape points into the file, where the places inside start at their defaults
+  pub implicit-is : (place : Place) → ShapePointed f (count f shapes) (place .shape) → implicit f place ≡ implicitBy f (defaultOf f) place
   unfolding implicit implicitUpTo defaultOf
-  implicit-is n i place e =
-      same-implicit f (Lower f n) (defaultBy (implicitUpTo f (count f shapes))) (defaultBy (implicitUpTo f (suc (count f shapes))))
-      (same-default n (count f shapes) (suc (count f shapes)) (λ s b p q. implicit-fuel (count f shapes) (suc (count f shapes)) s (omega arith) (omega arith) (omega arith) p q))
-      place (inner-element n i place e) (inner-field n i place e)
-
--- a string that no record describes
-pub implicit-string : (f : List ℕ) (length width : ℕ) → implicit f (bare (shape.String length width)) ≡ done (emptyString f length width)
-unfolding implicit implicitUpTo implicitBy bare
-implicit-string f length width = refl
+  implicit-is place i =
+      same-next (count f shapes) (count f shapes) (suc (count f shapes))
+      (λ s b p q. implicit-fuel (count f shapes) (suc (count f shapes)) s b (omega arith) b p q) place i
