@@ -2,9 +2,8 @@
 -- Assumes nothing.
 use mathlib.Core.Path.{_≡_, refl, sym, ap, subst, _∙_, fun-ext}
 use mathlib.Core.List.{List, [], _∷_}
-use Prim.Native.Nat.{ℕ, zero, suc, _+_, _≤_, _<_}
+use Prim.Native.Nat.{ℕ, zero, suc, _<_}
 use native.Mathlib.Omega.{arith}
-use lib.Dec.{eqb}
 use Rattle.definition.specs.declared.records.Shape.{Shape}
 use Rattle.definition.specs.declared.records.Shape.the-variants as shape
 use Rattle.definition.specs.declared.records.Place.{Place}
@@ -19,10 +18,9 @@ use Rattle.definition.specs.Scalar.{emptyString}
 use Rattle.definition.specs.Shapes.{onShape, onArray}
 use Rattle.definition.specs.Places.{bare, placeOf, typedPlace, elementPlace, firstNamed, blockFieldType, fieldDeclaration, declaredType, declaredElement, structureFieldPlace, fieldPlace, namesIn, blockFieldNames}
 use Rattle.definition.specs.Defaults.{Starts, ifStated, flat, repeatedDefaults, elementDefaults, arrayBy, fieldsBy, structured, implicitBy, defaultBy, implicitUpTo, implicit, defaultOf}
-use Rattle.laws.specs.Cases.{on-pick}
 use Rattle.laws.specs.Links.{Link}
 use Rattle.laws.specs.Accepted.{Accepted}
-use Rattle.laws.specs.Pointed.{Run, run-at, ShapePointed, shape-pointed}
+use Rattle.laws.specs.Pointed.{ShapePointed, shape-pointed, named-of}
 
 -- ---- two ways for the places inside to start that agree there
 module _ (f : List ℕ) (P : Place → Type 0) (d g : Starts) (same : (p : Place) → P p → d p ≡ g p) (place : Place) where
@@ -99,19 +97,6 @@ module _ (f : List ℕ) (P : Place → Type 0) (d g : Starts) (same : (p : Place
 abbrev Lower : List ℕ → ℕ → Place → Type 0
 Lower f n p = p .id ≡ 0 → (s : ℕ) × (s < n) × (p .shape ≡ shapeAt f s)
 
--- a name's record is one of the run
-named-in : (f : List ℕ) (section name first many : ℕ) → Link (λ k. (first ≤ k) × (k < first + many)) (firstNamed f section name first many)
-unfolding firstNamed
-named-in f section name first zero = tt
-named-in f section name first (suc many) =
-    on-pick (Link (λ k. (first ≤ k) × (k < first + suc many))) (eqb (word f section first 0) name) (suc first) (firstNamed f section name (suc first) many)
-    (λ q. (omega arith, omega arith))
-    (λ q. wider (firstNamed f section name (suc first) many) (named-in f section name (suc first) many))
-  where
-    wider : (l : ℕ) → Link (λ k. (suc first ≤ k) × (k < suc first + many)) l → Link (λ k. (first ≤ k) × (k < first + suc many)) l
-    wider zero h = tt
-    wider (suc k) h = (omega (arith, h .0), omega (arith, h .1))
-
 module _ (f : List ℕ) (place : Place) where
   element-shape : (s : ℕ) → elementPlace f place s .shape ≡ shapeAt f s
   unfolding elementPlace typedPlace
@@ -138,12 +123,12 @@ module _ (f : List ℕ) (place : Place) where
   no-place p e = let z : _≡_ {A = ℕ} 0 1 = cc in absurd (omega arith)
 
   module _ (n name : ℕ) (p : Place) where
-    field-lower : (l first many : ℕ) → Link (λ k. (first ≤ k) × (k < first + many)) l → Run (λ k. word f shapeFields k 1 < n) first many
+    field-lower : (l : ℕ) → Link (λ k. word f shapeFields k 1 < n) l
         → onLink l none (λ k. ok (structureFieldPlace f place name (word f shapeFields k 1))) ≡ ok p → Lower f n p
-    field-lower zero first many i r e = no-place p e
-    field-lower (suc k) first many i r e =
+    field-lower zero i e = no-place p e
+    field-lower (suc k) i e =
         let q : structureFieldPlace f place name (word f shapeFields k 1) ≡ p = cc in
-        λ z. (word f shapeFields k 1, run-at (λ k. word f shapeFields k 1 < n) first many r k (i .0) (i .1), rw (← q) (field-shape name (word f shapeFields k 1)))
+        λ z. (word f shapeFields k 1, i, rw (← q) (field-shape name (word f shapeFields k 1)))
 
     typed-lower : (l : ℕ) → onLink l none (λ d. ok (placeOf f d)) ≡ ok p → Lower f n p
     unfolding placeOf
@@ -167,7 +152,7 @@ module _ (f : List ℕ) (place : Place) where
     lower-as (shape.String length width) r e = no-place p e
     lower-as (shape.Enumeration first many default underlying) r e = no-place p e
     lower-as (shape.Structure first many) r e =
-        field-lower (firstNamed f shapeFields name first many) first many (named-in f shapeFields name first many) (r .1) e
+        field-lower (firstNamed f shapeFields name first many) (named-of f shapeFields name (λ k. word f shapeFields k 1 < n) first many (r .1)) e
     lower-as (shape.Array s first many) r e = no-place p e
     lower-as (shape.Subrange base least greatest) r e = no-place p e
     lower-as (shape.FunctionBlock block) r e = block-lower (place .id) e

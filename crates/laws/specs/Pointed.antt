@@ -22,7 +22,8 @@ use Rattle.definition.specs.Base.{every, onLink}
 use Rattle.definition.specs.Layout.{shapes, members, shapeFields, dimensions, types, blockFields, elements, variables, initializers, entries, expressions, constants, characters, count, word}
 use Rattle.definition.specs.Records.{shapeOf, shapeAt, declarationOf, declarationAt, declarationKind, initializerOf, initializerAt, initializerKind, entryOf, entryAt, expressionOf, expressionAt}
 use Rattle.definition.specs.Accept.{isName, plainRules, shapePlain, shapeFieldPlain, blockFieldPlain, entryPlain, pointRules, numberIn, runIn, runOf, constantIn, linkTo, memberEntry, arrayEntry, enumeratedEntry, shapePoints, nameIn, declarationPoints, referencePoints, valuePoints, lowerRun, entryPoints, expressionPoints, constantPoints}
-use Rattle.laws.specs.Cases.{never, both, either, by-kind}
+use Rattle.definition.specs.Places.{firstNamed}
+use Rattle.laws.specs.Cases.{never, both, either, by-kind, on-pick}
 use Rattle.laws.specs.Every.{every-true}
 use Rattle.laws.specs.Links.{Link}
 use Rattle.laws.specs.Accepted.{Accepted, word-rule, point-rule, number-in, link-in, run-in, type-points, initializer-points}
@@ -434,3 +435,12 @@ module _ (f : List ℕ) (a : Accepted f) where
   pub interface-named : (n : ℕ) → n < count f shapes → word f shapes n 0 ≡ 15 → word f shapes n 1 ≡ 0 → ⊥
   unfolding plainRules shapePlain
   interface-named n h k = is-name (word f shapes n 1) (both (isName (word f shapes n 1)) _ (rw k at (word-rule f a shapes n (lit< tt) h)) .0)
+
+-- what holds of every record of a run holds of the one that has a name
+pub named-of : (f : List ℕ) (s name : ℕ) (P : ℕ → Type 0) (first many : ℕ) → Run P first many → Link P (firstNamed f s name first many)
+unfolding firstNamed
+named-of f s name P first zero r = tt
+named-of f s name P first (suc k) r =
+    on-pick (Link P) (eqb (word f s first 0) name) (suc first) (firstNamed f s name (suc first) k)
+    (λ q. run-at P first (suc k) r first (omega arith) (omega arith))
+    (λ q. named-of f s name P (suc first) k (λ j l. run-at P first (suc k) r (suc first + j) (omega arith) (omega arith)))

@@ -17,13 +17,12 @@ use Rattle.laws.specs.Asks.{OnOk}
 use Rattle.laws.specs.Cases.{on-pick, on-link}
 use Rattle.laws.specs.Links.{Link, link-to}
 use Rattle.laws.specs.Accepted.{Accepted, number-in, type-points}
-use Rattle.laws.specs.Pointed.{Run, ShapePointed, shape-pointed}
+use Rattle.laws.specs.Pointed.{Run, ShapePointed, shape-pointed, named-of}
 use Rattle.laws.specs.Nearby.{Below, placed-bare, below-of, below-typed, below-element, below-structure, block-field}
 use Rattle.laws.specs.Used.{IsType, leads-inside}
 use Rattle.places.specs.declared.field.Found.{Found}
 use Rattle.places.specs.declared.field.Found.the-variants as found
 use Rattle.places.specs.Found.{placeIn}
-use Rattle.places.specs.Named.{named-of}
 use Rattle.places.specs.Shapes.{on-kind}
 
 -- a shape whose numbers and runs lie inside their sections

@@ -44,8 +44,9 @@ fn report(what: &str, counts: &[u64; 7]) {
 const REPEATED: usize = 100;
 
 /// Every section at its limit, with records that are allowed: 1,024 shapes
-/// that differ, and elsewhere records of zeros and names.
-fn largest() -> Vec<u32> {
+/// that differ, function blocks or structures of four fields, and elsewhere
+/// records of zeros and names.
+fn largest(structures: bool) -> Vec<u32> {
     use files::layout::{MOST, SECTIONS, WORDS};
     let mut words = Vec::new();
     for section in 0..SECTIONS {
@@ -53,9 +54,14 @@ fn largest() -> Vec<u32> {
         for number in 0..MOST[section] {
             let mut record = vec![0u32; WORDS[section]];
             match section {
-                files::layout::SHAPES => record[..2].copy_from_slice(&[14, number as u32 + 1]),
+                files::layout::SHAPES if !structures => {
+                    record[..2].copy_from_slice(&[14, number as u32 + 1])
+                }
+                files::layout::SHAPES if number > 0 => {
+                    record[..3].copy_from_slice(&[11, 4 * number as u32, 4])
+                }
+                files::layout::SHAPE_FIELDS => record[0] = number as u32 + 1,
                 files::layout::MEMBERS
-                | files::layout::SHAPE_FIELDS
                 | files::layout::BLOCK_FIELDS
                 | files::layout::ELEMENTS => record[0] = 1,
                 files::layout::TYPES => record[9] = u32::MAX,
@@ -74,6 +80,21 @@ fn timed(run: impl Fn(&[u32]) -> u32, words: &[u32], least: &mut f64) -> u32 {
     let answer = run(words);
     *least = least.min(started.elapsed().as_secs_f64());
     answer
+}
+
+fn measure(what: &str, words: &[u32]) {
+    let (mut ours, mut our_time) = (0, f64::MAX);
+    let (mut theirs, mut their_time) = (0, f64::MAX);
+    for _ in 0..REPEATED {
+        ours = timed(accepted, words, &mut our_time);
+        theirs = timed(verdict, words, &mut their_time);
+    }
+    println!(
+        "largest file, {what}, {} words: library {ours} in {:.3} ms, plain Rust {theirs} in {:.3} ms",
+        words.len(),
+        our_time * 1e3,
+        their_time * 1e3
+    );
 }
 
 fn main() {
@@ -98,17 +119,6 @@ fn main() {
     report("damaged", &damaged);
     report("random", &random);
 
-    let words = largest();
-    let (mut ours, mut our_time) = (0, f64::MAX);
-    let (mut theirs, mut their_time) = (0, f64::MAX);
-    for _ in 0..REPEATED {
-        ours = timed(accepted, &words, &mut our_time);
-        theirs = timed(verdict, &words, &mut their_time);
-    }
-    println!(
-        "largest file, {} words: library {ours} in {:.3} ms, plain Rust {theirs} in {:.3} ms",
-        words.len(),
-        our_time * 1e3,
-        their_time * 1e3
-    );
+    measure("function blocks", &largest(false));
+    measure("structures", &largest(true));
 }

@@ -14,11 +14,10 @@ use Rattle.definition.specs.Records.{aliasBase, declarationKind, initializerKin
 use Rattle.definition.specs.Places.{firstNamed, simpleTarget, aliasTarget, fieldDeclarationUpTo, declaredTypes, fieldDeclaration, declaredType, declaredElement}
 use Rattle.laws.specs.Links.{link-to}
 use Rattle.laws.specs.Accepted.{Accepted, count-most, element-points}
-use Rattle.laws.specs.Pointed.{DeclarationPointed, declaration-pointed}
+use Rattle.laws.specs.Pointed.{DeclarationPointed, declaration-pointed, named-of}
 use Rattle.laws.specs.Nearby.{structure-at, alias-target}
 use Rattle.laws.specs.Used.{IsType, leads-inside}
 use Rattle.records.proofs.Links.{a-link}
-use Rattle.places.specs.Named.{named-of}
 use Rattle.places.proofs.Steps.{Comes, goes-on, stops, ends}
 
 -- ---- `simple_target`

@@ -16,6 +16,7 @@ use Rattle.definition.specs.Ask.{Result, ok, none}
 use Rattle.definition.specs.Shapes.{onShape}
 use Rattle.definition.specs.Places.{bare, placeOf, typedPlace, firstNamed, blockFieldType, fieldDeclaration, declaredType, declaredElement, structureFieldPlace, fieldPlace, stringPlace, variablePlace}
 use Rattle.definition.specs.Uses.{initializerUses}
+use Rattle.laws.specs.Pointed.{named-of}
 use Rattle.laws.specs.Cases.{on-link}
 use Rattle.laws.specs.Every.{Each}
 use Rattle.laws.specs.Links.{Link, link-to, declared-type}
@@ -25,7 +26,6 @@ use Rattle.laws.specs.Used.{IsType, leads-inside}
 use Rattle.records.proofs.Links.{no-link, a-link}
 use Rattle.places.specs.Found.{linkedPlace, structureField, blockField}
 use Rattle.places.specs.Inside.{PlaceIn, FieldsIn, structure-fields}
-use Rattle.places.specs.Named.{named-of}
 use Rattle.places.proofs.Others.{NoFields, no-fields}
 
 -- ---- `linked_place`
