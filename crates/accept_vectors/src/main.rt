@@ -1,8 +1,8 @@
 // Replays stored files with their verdicts (vectors/refusals): a count, that many words, and the refusal that document 01 gives them, until the input ends.
 // Prints how many were right, and the number and the answer of each that was not.
 ghost use Prim.Native.Nat.{_<_, _≤_};
+use acceptance::accept::accept;
 use definition::answers::Acceptance;
-use records::accept::accept;
 use std::num::wrapping_add_u64;
 use vector_io::Got;
 use vector_io::print_line;

@@ -16,8 +16,8 @@ use Rattle.definition.specs.Accept.{elementsOf}
 use Rattle.definition.specs.Syntax.{Init, Inits, inil, icons, initsAt}
 use Rattle.definition.specs.Tree.{Tree, Trees, tnil, tcons, head, parts, many, nodesIn, one, times, rest, named, arrayTree, structureTree, nullTree, referenceTree, mostNodes}
 use Rattle.definition.specs.Ask.{Result, ok, none, large, Outcome, Ask, done, bind, _>>=_, give, nothing, typeDefault, formed, gathered, andMore}
-use Rattle.definition.specs.Iec.{implicitScalar, filled, assigned}
-use Rattle.definition.specs.Scalar.{constantValue, enumeratedValue, expressionValue, emptyString}
+use Rattle.definition.specs.Iec.{filled, assigned}
+use Rattle.definition.specs.Scalar.{constantValue, enumeratedValue, expressionValue, builtIn}
 use Rattle.definition.specs.Shapes.{onShape, onArray}
 use Rattle.definition.specs.Places.{placeOf, elementPlace, leafPlace, fieldPlace, namesIn, blockFieldNames, variablePlace}
 
@@ -96,15 +96,15 @@ structured fields = fields 0 0 >>= λ ts. give (structureTree ts)
 
 unfoldable pub implicitBy : List ℕ → Starts → Starts
 implicitBy f default place =
-    let scalar : Unit {0} → Ask Outcome = λ u. done (implicitScalar f (place .shape)) in
+    let single : Unit {0} → Ask Outcome = λ u. done (builtIn f (place .shape)) in
     onShape (place .shape)
-    (λ length width. done (emptyString f length width))
-    (λ first many. scalar tt)
+    (λ length width. single tt)
+    (λ first many. single tt)
     (λ first many. structured (fieldsBy f default place (namesIn f first many)))
     (λ s first many. arrayBy f default place (λ leaf defaults made size. give tnil))
     (λ u. done (blockFieldNames f place) >>= λ names. structured (fieldsBy f default place names))
-    (λ u. give nullTree)
-    scalar
+    single
+    single
 
 -- a place starts at its type's default, or at the implicit default of its shape (`default_of`)
 unfoldable pub defaultBy : Starts → Starts

@@ -1,8 +1,9 @@
--- A constant or an enumerated value as a value of the shape that it initializes (scalar.rs, and the string functions of resolver.rs).
+-- A constant or an enumerated value as a value of the shape that it initializes, and what a shape without parts starts at (scalar.rs, and the string functions of
+-- resolver.rs).
 use mathlib.Core.Bool.{Bool, true, false, _&&_, _||_}
 use mathlib.Core.List.{List}
 use Prim.Native.Nat.{ℕ, zero, suc, _+_, _/_, _%_, _^_, min}
-use lib.Dec.{eqb, leb}
+use lib.Dec.{eqb, leb, ltb}
 use lib.IntN.{ℤ}
 use Rattle.definition.specs.declared.records.Shape.{Shape}
 use Rattle.definition.specs.declared.records.Shape.the-variants as shape
@@ -11,7 +12,7 @@ use Rattle.definition.specs.Base.{pick, joined}
 use Rattle.definition.specs.Layout.{word, settings, members}
 use Rattle.definition.specs.Records.{constantOf, constantAt}
 use Rattle.definition.specs.Syntax.{Expr}
-use Rattle.definition.specs.Tree.{constantTree, enumeratedTree, nullTree, expressionTree}
+use Rattle.definition.specs.Tree.{Tree, constantTree, enumeratedTree, nullTree, expressionTree}
 use Rattle.definition.specs.Ask.{Result, ok, none, large, Outcome}
 use Rattle.definition.specs.Iec.{number, between, inRange}
 use Rattle.definition.specs.Ieee.{rounded}
@@ -96,8 +97,48 @@ asTree r = onResult r (λ c. ok (constantTree c))
 unfoldable pub constantValue : List ℕ → Shape → Constant → Outcome
 constantValue f s c = asTree (converted f s c)
 
+-- ---- what a shape without parts starts at (`implicit_default`, and `implicit` for strings and references): IEC 61131-3, 6.4.2 and table 10
+-- zero, as a constant of a kind; the date and time types count from their epoch here (docs/DIFFERENCES.md)
+unfoldable pub zeroOf : ℕ → ℕ → Outcome
+zeroOf kind width = ok (constantTree (constantOf kind 0 0 0 width))
+
+-- a temporal literal is long for a type of 64 bits (the Rust's `width`)
+unfoldable pub long : ℕ → ℕ
+long bits = pick (eqb bits 64) 1 0
+
+-- a string is empty
 unfoldable pub emptyString : List ℕ → ℕ → ℕ → Outcome
 emptyString f length width = asTree (cutString f length width 0 0)
+
+-- 6.4.4.2: an enumeration starts at its default member; a default's place past the members gives none (document 01, Shapes)
+unfoldable pub defaultMember : List ℕ → ℕ → ℕ → ℕ → Outcome
+defaultMember f first count default = pick (ltb default count) (ok (enumeratedTree (word f members (first + default) 0) 0)) none
+
+-- 6.4.4.4: a subrange starts at its lower limit, as an integer
+unfoldable pub asIntegerTree : Constant → Tree
+asIntegerTree c = constantTree (constantOf 1 (c .sign) (c .low) (c .high) 0)
+
+-- structures, arrays and function blocks start at what their parts start at, and an interface has none (docs/DIFFERENCES.md)
+unfoldable pub builtIn : List ℕ → Shape → Outcome
+builtIn f shape.Bool = zeroOf 0 0
+builtIn f (shape.Int bits) = zeroOf 1 0
+builtIn f (shape.UInt bits) = zeroOf 1 0
+builtIn f (shape.Real bits) = zeroOf 3 0
+builtIn f (shape.Bytes bits) = zeroOf 1 0
+builtIn f (shape.Time bits) = zeroOf 4 (long bits)
+builtIn f (shape.Date bits) = zeroOf 6 (long bits)
+builtIn f (shape.TimeOfDay bits) = zeroOf 5 (long bits)
+builtIn f (shape.DateAndTime bits) = zeroOf 7 (long bits)
+builtIn f (shape.String length width) = emptyString f length width
+builtIn f (shape.Enumeration first count default underlying) = defaultMember f first count default
+builtIn f (shape.Structure first count) = none
+builtIn f (shape.Array element first count) = none
+builtIn f (shape.Subrange base low high) = ok (asIntegerTree (constantAt f low))
+builtIn f (shape.FunctionBlock name) = none
+builtIn f (shape.Interface name) = none
+-- 6.4.4.10: a reference is null
+builtIn f (shape.Reference target) = ok nullTree
+builtIn f shape.Unknown = none
 
 -- ---- enumerated values: one of the members, its qualifier kept (`from_enumerated_value`)
 unfoldable pub isMember : List ℕ → ℕ → ℕ → ℕ → Bool
@@ -124,5 +165,5 @@ expressionValue f s (Expr.other n) = ok (expressionTree n)
 
 -- what this file computes with
 unfoldable pub opened : Unit {0}
-unfolding sizeOf valueOf isInteger kept asBool asInteger asReal asCount maxLength cutString asString converted asTree constantValue emptyString isMember enumeratedValue expressionValue
+unfolding sizeOf valueOf isInteger kept asBool asInteger asReal asCount maxLength cutString asString converted asTree constantValue zeroOf long emptyString defaultMember asIntegerTree builtIn isMember enumeratedValue expressionValue
 opened = tt

@@ -1,6 +1,6 @@
 -- Value trees (document 01, "Made by resolver.rs, read by value.rs"): a node is six words, a tree is a node with its parts.
 use mathlib.Core.List.{List, [], _∷_, _++_}
-use Prim.Native.Nat.{ℕ, zero, suc, _+_}
+use Prim.Native.Nat.{ℕ, zero, suc, _+_, _*_}
 use lib.Dec.{eqb}
 use Rattle.definition.specs.declared.records.Constant.{Constant}
 use Rattle.definition.specs.Base.{pick}
@@ -113,6 +113,13 @@ replaced name u (tcons t ts) = pick (eqb (head t .name) name) (tcons u ts) (tcon
 -- ---- the limit of refusal 8
 abbrev pub mostNodes : ℕ
 mostNodes = 2048
+
+abbrev pub nodeWords : ℕ
+nodeWords = 6
+
+-- the most words of a tree
+abbrev pub treeWords : ℕ
+treeWords = mostNodes * nodeWords
 
 -- what this file computes with
 unfoldable pub opened : Unit {0}

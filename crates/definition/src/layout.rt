@@ -34,6 +34,19 @@ pub const CHARACTERS: usize = 13;
 
 pub const SECTIONS: usize = 14;
 
+// The word that stands for "inline" in a named type, and for "no block record".
+pub const INLINE: u32 = 4294967295;
+
+// No tree has more nodes (refusal 8).
+pub const MOST_NODES: usize = 2048;
+
+pub const NODE_WORDS: usize = 6;
+
+// The most words of a tree, and of a type's line of a sheet: rank, state, count and such a tree.
+pub const TREE_WORDS: usize = MOST_NODES * NODE_WORDS;
+
+pub const LINE_WORDS: usize = 3 + TREE_WORDS;
+
 const RECORD_WORDS: [usize; 14] = [1, 5, 1, 3, 2, 11, 3, 2, 4, 8, 4, 2, 5, 1];
 
 const MOST_RECORDS: [usize; 14] = [

@@ -13,7 +13,7 @@ use Rattle.definition.specs.declared.records.Entry.the-variants as entry
 use Rattle.definition.specs.Layout.{limitsOfRecords, mostRecords, count, word, shapes, shapeFields, entries}
 use Rattle.definition.specs.Records.{shapeAt, entryAt}
 use Rattle.definition.specs.Depth.{deepest, entryDepthFrom, entryDepthUpTo, entryDepth, shapeDepthFrom, shapeDepthUpTo, shapeDepth, levels}
-use Rattle.definition.specs.Answers.{checkWords, resolverWords, writerWords}
+use Rattle.definition.specs.Answers.{lineWords, roomWords}
 use Rattle.laws.specs.Lower.{fuel, from-lower}
 use Rattle.laws.specs.Accepted.{Accepted, count-most, few-types}
 use Rattle.laws.specs.Pointed.{run-at, InArray, InMembers, ShapePointed, EntryPointed, shape-pointed, entry-pointed}
@@ -237,17 +237,17 @@ module _ (f : List ℕ) (a : Accepted f) where
   unfolding levels
   levels-most = omega (arith, deepest-entry, deepest-shape, few-entries, few-shapes)
 
-  pub check-words-most : checkWords f ≤ 226527232
-  unfolding checkWords
-  check-words-most = omega (arith, levels-most, few-entries, few-shapes, few-types f a)
+  pub line-words-most : lineWords f ≤ 12585984
+  unfolding lineWords
+  line-words-most = omega (arith, few-types f a)
 
-  pub resolver-words-most : resolverWords f ≤ 268435456
-  unfolding resolverWords
-  resolver-words-most = omega (arith, check-words-most, few-types f a)
+  pub room-words-most : roomWords f ≤ 226516992
+  unfolding roomWords
+  room-words-most = omega (arith, levels-most)
 
-  pub writer-words-most : (out : ℕ) → writerWords f out ≤ 268435456
-  unfolding writerWords
-  writer-words-most out = omega (arith, check-words-most, few-types f a)
+  -- document 01, after the refusals: at most 268,435,456
+  pub work-words-most : lineWords f + roomWords f ≤ 268435456
+  work-words-most = omega (arith, line-words-most, room-words-most)
 
 -- an entry and a shape of a file reach no further than its levels
 pub entry-level : (f : List ℕ) (e : ℕ) → e < count f entries → entryDepth f e < levels f

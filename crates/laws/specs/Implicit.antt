@@ -13,8 +13,7 @@ use Rattle.definition.specs.Records.{shapeAt}
 use Rattle.definition.specs.Accept.{elementsOf}
 use Rattle.definition.specs.Tree.{tnil, nullTree}
 use Rattle.definition.specs.Ask.{Result, ok, none, large, Outcome, Ask, done, bind, _>>=_, give, nothing, typeDefault}
-use Rattle.definition.specs.Iec.{implicitScalar}
-use Rattle.definition.specs.Scalar.{emptyString}
+use Rattle.definition.specs.Scalar.{builtIn}
 use Rattle.definition.specs.Shapes.{onShape, onArray}
 use Rattle.definition.specs.Places.{bare, placeOf, typedPlace, elementPlace, firstNamed, blockFieldType, fieldDeclaration, declaredType, declaredElement, structureFieldPlace, fieldPlace, namesIn, blockFieldNames}
 use Rattle.definition.specs.Defaults.{Starts, ifStated, flat, repeatedDefaults, elementDefaults, arrayBy, fieldsBy, structured, implicitBy, defaultBy, implicitUpTo, implicit, defaultOf}
@@ -56,15 +55,15 @@ module _ (f : List ℕ) (P : Place → Type 0) (d g : Starts) (same : (p : Place
   -- the implicit default of the place, which has the shape s
   abbrev implicitAs : Starts → Shape → Ask Outcome
   implicitAs default s =
-      let scalar : Unit {0} → Ask Outcome = λ u. done (implicitScalar f (place .shape)) in
+      let single : Unit {0} → Ask Outcome = λ u. done (builtIn f (place .shape)) in
       onShape s
-      (λ length width. done (emptyString f length width))
-      (λ first many. scalar tt)
+      (λ length width. single tt)
+      (λ first many. single tt)
       (λ first many. structured (fieldsBy f default place (namesIn f first many)))
       (λ s first many. arrayBy f default place (λ leaf defaults made size. give tnil))
       (λ u. done (blockFieldNames f place) >>= λ names. structured (fieldsBy f default place names))
-      (λ u. give nullTree)
-      scalar
+      single
+      single
 
   module _ (array : (s first many : ℕ) → place .shape ≡ shape.Array s first many → P (elementPlace f place s))
       (inside : (name : ℕ) (p : Place) → fieldPlace f place name ≡ ok p → P p) where

@@ -6,7 +6,8 @@ use Rattle.definition.specs.Layout.{count, shapes}
 use Rattle.definition.specs.Accept.{elementsOf}
 use Rattle.definition.specs.Tree.{Trees, arrayTree, nullTree, mostNodes}
 use Rattle.definition.specs.Ask.{done, _>>=_, typeDefault}
-use Rattle.definition.specs.Iec.{implicitScalar, filled}
+use Rattle.definition.specs.Iec.{filled}
+use Rattle.definition.specs.Scalar.{builtIn}
 use Rattle.definition.specs.declared.records.Place.{Place}
 use Rattle.definition.specs.Places.{elementPlace, leafPlace, fieldPlace, namesIn, blockFieldNames}
 use Rattle.definition.specs.Defaults.{Starts, flat, elementDefaults, Fills, arrayBy, field, fieldsBy, structured, implicitBy, defaultBy, implicitUpTo, implicit, defaultOf}
@@ -14,7 +15,7 @@ use Rattle.laws.specs.Cases.{on-stated, on-shape}
 use Rattle.laws.specs.Links.{link-to, Leads}
 use Rattle.laws.specs.Nearby.{Near, Below, below-near, below-element, near-leaf, below-field}
 use Rattle.laws.specs.Whole.{goods-filled}
-use Rattle.laws.specs.Values.{Small, any-ok, small-null, small-emptyString, small-implicitScalar}
+use Rattle.laws.specs.Values.{Small, any-ok, small-builtIn}
 use Rattle.laws.specs.Gathers.{Gives, Gathered, good-array, array-nameless, goods-flat, gives-nothing, gives-give, gives-then, gives-none, gives-formed, gives-more, gives-repeated, gives-field, gives-structured}
 
 -- the default of a type that may be asked for
@@ -64,17 +65,17 @@ module _ (f : List ℕ) (N P : ℕ → Type 0) (leads : Leads f N P) where
     pub gives-implicitBy : (place : Place) → Near N P place → Gives P Small (implicitBy f default place)
     unfolding implicitBy
     gives-implicitBy place h =
-        let scalar : Gives P Small (done (implicitScalar f (place .shape))) = small-implicitScalar f (place .shape) in
+        let single : Gives P Small (done (builtIn f (place .shape))) = small-builtIn f (place .shape) in
         let fields : (names : List ℕ) → Gives P Small (structured (fieldsBy f default place names)) =
         λ names. gives-structured P (fieldsBy f default place names) (gives-fieldsBy place names 0 0 h (lit≤ tt)) in
         on-shape (Gives P Small) (place .shape) _ _ _ _ _ _ _
-        (λ length width. small-emptyString f length width)
-        (λ first many. scalar)
+        (λ length width. single)
+        (λ first many. single)
         (λ first many. fields (namesIn f first many))
         (λ s first many. gives-array place _ h (λ leaf defaults made size n g r. gives-none P size r))
         (gives-then P (λ names. Unit {0}) Small (done (blockFieldNames f place)) _ (any-ok (blockFieldNames f place)) (λ names u. fields names))
-        (gives-give P Small nullTree small-null)
-        scalar
+        single
+        single
 
   -- ---- the default of a place
   gives-defaultBy : (inner : Starts) → ((place : Place) → Near N P place → Gives P Small (inner place)) → Starting P (defaultBy inner)

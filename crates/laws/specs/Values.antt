@@ -14,9 +14,9 @@ use Rattle.definition.specs.Records.{constantOf, constantAt}
 use Rattle.definition.specs.Syntax.{Expr}
 use Rattle.definition.specs.Tree.{Tree, head, many, nodes, leaf, constantTree, enumeratedTree, nullTree, referenceTree, expressionTree, mostNodes}
 use Rattle.definition.specs.Ask.{Result, ok, none, large}
-use Rattle.definition.specs.Iec.{inRange, between, defaultMember, zeroOf, asIntegerTree, implicitScalar}
+use Rattle.definition.specs.Iec.{inRange, between}
 use Rattle.definition.specs.Shapes.{isReference}
-use Rattle.definition.specs.Scalar.{isInteger, kept, asBool, asInteger, asReal, asCount, maxLength, onResult, cutString, asString, converted, asTree, constantValue, emptyString, enumeratedValue, expressionValue, valueOf, isMember}
+use Rattle.definition.specs.Scalar.{isInteger, kept, asBool, asInteger, asReal, asCount, maxLength, onResult, cutString, asString, converted, asTree, constantValue, zeroOf, emptyString, defaultMember, asIntegerTree, builtIn, enumeratedValue, expressionValue, valueOf, isMember}
 use Rattle.definition.specs.Sheet.{partsOf}
 use Rattle.laws.specs.Asks.{OnOk}
 use Rattle.laws.specs.Cases.{both, either, on-pick, on-shape}
@@ -181,23 +181,23 @@ small-least : (c : Constant) → Small (asIntegerTree c)
 unfolding asIntegerTree constantOf
 small-least c = small-constant (constantOf 1 (c .sign) (c .low) (c .high) 0) (lit≤ tt)
 
-pub small-implicitScalar : (f : List ℕ) (s : Shape) → OnOk Small (implicitScalar f s)
-unfolding implicitScalar
-small-implicitScalar f shape.Bool = small-zero 0 _ (lit≤ tt)
-small-implicitScalar f (shape.Int bits) = small-zero 1 _ (lit≤ tt)
-small-implicitScalar f (shape.UInt bits) = small-zero 1 _ (lit≤ tt)
-small-implicitScalar f (shape.Real bits) = small-zero 3 _ (lit≤ tt)
-small-implicitScalar f (shape.Bytes bits) = small-zero 1 _ (lit≤ tt)
-small-implicitScalar f (shape.Time bits) = small-zero 4 _ (lit≤ tt)
-small-implicitScalar f (shape.Date bits) = small-zero 6 _ (lit≤ tt)
-small-implicitScalar f (shape.TimeOfDay bits) = small-zero 5 _ (lit≤ tt)
-small-implicitScalar f (shape.DateAndTime bits) = small-zero 7 _ (lit≤ tt)
-small-implicitScalar f (shape.String length width) = tt
-small-implicitScalar f (shape.Enumeration first count default underlying) = small-member f first count default
-small-implicitScalar f (shape.Structure first count) = tt
-small-implicitScalar f (shape.Array element first count) = tt
-small-implicitScalar f (shape.Subrange base low high) = small-least (constantAt f low)
-small-implicitScalar f (shape.FunctionBlock name) = tt
-small-implicitScalar f (shape.Interface name) = tt
-small-implicitScalar f (shape.Reference target) = tt
-small-implicitScalar f shape.Unknown = tt
+pub small-builtIn : (f : List ℕ) (s : Shape) → OnOk Small (builtIn f s)
+unfolding builtIn
+small-builtIn f shape.Bool = small-zero 0 _ (lit≤ tt)
+small-builtIn f (shape.Int bits) = small-zero 1 _ (lit≤ tt)
+small-builtIn f (shape.UInt bits) = small-zero 1 _ (lit≤ tt)
+small-builtIn f (shape.Real bits) = small-zero 3 _ (lit≤ tt)
+small-builtIn f (shape.Bytes bits) = small-zero 1 _ (lit≤ tt)
+small-builtIn f (shape.Time bits) = small-zero 4 _ (lit≤ tt)
+small-builtIn f (shape.Date bits) = small-zero 6 _ (lit≤ tt)
+small-builtIn f (shape.TimeOfDay bits) = small-zero 5 _ (lit≤ tt)
+small-builtIn f (shape.DateAndTime bits) = small-zero 7 _ (lit≤ tt)
+small-builtIn f (shape.String length width) = small-emptyString f length width
+small-builtIn f (shape.Enumeration first count default underlying) = small-member f first count default
+small-builtIn f (shape.Structure first count) = tt
+small-builtIn f (shape.Array element first count) = tt
+small-builtIn f (shape.Subrange base low high) = small-least (constantAt f low)
+small-builtIn f (shape.FunctionBlock name) = tt
+small-builtIn f (shape.Interface name) = tt
+small-builtIn f (shape.Reference target) = small-null
+small-builtIn f shape.Unknown = tt

@@ -4,8 +4,8 @@ ghost use Rattle.tree.specs.Words.{WroteCopy};
 ghost use Rattle.lines.specs.Copy.{Copies};
 use crate::look::Remembered;
 use crate::look::look_up;
+use definition::layout::NODE_WORDS;
 use tree::extent::Extent;
-use tree::extent::NODE_WORDS;
 use tree::words::copy;
 use tree::words::nodes_fit;
 

@@ -12,7 +12,7 @@ ghost use Rattle.laws.specs.Accepted.{Accepted};
 ghost use Rattle.laws.specs.Links.{Link};
 ghost use Rattle.laws.specs.Used.{IsType};
 ghost use Rattle.records.specs.Starts.{StartsOf};
-ghost use Rattle.records.specs.Classes.{Classes};
+ghost use Rattle.shapes.specs.Classes.{Classes};
 ghost use Rattle.places.specs.Inside.{PlaceIn};
 use crate::named::linked_word;
 use crate::named::or_else;
@@ -20,11 +20,11 @@ use definition::layout::SHAPES;
 use definition::layout::TYPES;
 use definition::records::Place;
 use definition::records::Shape;
-use records::classes::same_shape;
 use records::view::shape_at;
 use records::words::Sections;
 use records::words::count;
 use records::words::word;
+use shapes::classes::same_shape;
 
 // A value of a shape that has no type.
 pub fn bare(shape: Shape) -> Place

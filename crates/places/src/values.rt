@@ -1,13 +1,12 @@
-// What a constant or an enumerated value gives a place, and what a scalar starts with when nothing declares one (`constant`, `from_enumerated_value`,
-// `implicit_default`).
+// What a constant or an enumerated value gives a place, and what a shape without parts starts with when nothing declares one (`constant`,
+// `from_enumerated_value`, `implicit_default`).
 ghost use mathlib.Core.Path.{_≡_};
 ghost use Prim.Native.Nat.{_+_, _-_, _^_, _≤_};
 ghost use lib.ListN.{length, take, drop};
 ghost use Rattle.definition.specs.Layout as Layout;
 ghost use Rattle.definition.specs.Layout.{countAt, members};
-ghost use Rattle.definition.specs.Iec.{implicitScalar};
 ghost use Rattle.definition.specs.Scalar as scalar;
-ghost use Rattle.definition.specs.Scalar.{asTree, constantValue, enumeratedValue};
+ghost use Rattle.definition.specs.Scalar.{asTree, constantValue, builtIn, enumeratedValue};
 ghost use Rattle.laws.specs.Accepted.{Accepted};
 ghost use Rattle.records.specs.Starts.{StartsOf};
 ghost use Rattle.scalar.specs.Node.{resultOf};
@@ -136,12 +135,13 @@ fn default_name(file: &[u32], sections: Sections, shape: Shape) -> u32
     }
 }
 
-// The value that a scalar starts with when nothing declares one.
-pub fn implicit_scalar(file: &[u32], sections: Sections, shape: Shape) -> Leaf
+// The value that a shape without parts starts with when nothing declares one.
+pub fn built_in(file: &[u32], sections: Sections, shape: Shape) -> Leaf
     requires { ⌜ StartsOf (now file) (sections .starts) ⌝ }
-    ensures { λ r. ⌜ asTree (resultOf r) ≡ implicitScalar (now (file .entry)) shape ⌝ }
+    ensures { λ r. ⌜ asTree (resultOf r) ≡ builtIn (now (file .entry)) shape ⌝ }
 {
     let range = range_of(file, sections, shape, node::null());
     let member = default_name(file, sections, shape);
-    implicit_default(shape, range.least, member)
+    let setting = word(file, sections, SETTINGS, 0, 0);
+    implicit_default(shape, range.least, member, setting)
 }

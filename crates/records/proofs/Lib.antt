@@ -1,13 +1,5 @@
-pub mod Accepting
-pub mod Classing
-pub mod Comparing
 pub mod Filling
-pub mod Keying
 pub mod Links
 pub mod Listed
-pub mod Multiplying
-pub mod Nests
-pub mod Running
 pub mod Scanning
 pub mod Starting
-pub mod Wanting

@@ -1,18 +1,20 @@
-// The value that a scalar starts with when nothing declares one (`implicit_default` of scalar.rs).
+// The value that a shape without parts starts with when nothing declares one (`implicit_default` of scalar.rs, and `implicit` of resolver.rs for strings and references).
 ghost use mathlib.Core.Path.{_≡_};
 ghost use Rattle.definition.specs.Ask.{ok};
-ghost use Rattle.definition.specs.Iec as iec;
+ghost use Rattle.definition.specs.Scalar as scalar;
 ghost use Rattle.definition.specs.Scalar.{asTree};
 ghost use Rattle.scalar.specs.Node.{resultOf};
 ghost use Rattle.scalar.specs.Default.{implicitBy};
 use crate::node::Leaf;
 use crate::node::enumerated;
+use crate::node::null;
+use crate::string::cut_string;
 use definition::records::Constant;
 use definition::records::Shape;
 
 // A temporal literal is long for a type of 64 bits.
 fn long(bits: u32) -> u32
-    ensures { λ r. ⌜ r ≡ iec.long bits ⌝ }
+    ensures { λ r. ⌜ r ≡ scalar.long bits ⌝ }
 {
     if bits == 64 {
         return 1;
@@ -21,7 +23,7 @@ fn long(bits: u32) -> u32
 }
 
 fn zero_of(kind: u32, width: u32) -> Leaf
-    ensures { λ r. ⌜ asTree (resultOf r) ≡ iec.zeroOf kind width ⌝ }
+    ensures { λ r. ⌜ asTree (resultOf r) ≡ scalar.zeroOf kind width ⌝ }
 {
     Leaf::Value(Constant {
         kind,
@@ -33,7 +35,7 @@ fn zero_of(kind: u32, width: u32) -> Leaf
 }
 
 fn as_integer(c: Constant) -> Leaf
-    ensures { λ r. ⌜ asTree (resultOf r) ≡ ok (iec.asIntegerTree c) ⌝ }
+    ensures { λ r. ⌜ asTree (resultOf r) ≡ ok (scalar.asIntegerTree c) ⌝ }
 {
     Leaf::Value(Constant {
         kind: 1,
@@ -44,9 +46,9 @@ fn as_integer(c: Constant) -> Leaf
     })
 }
 
-// Least is a subrange's lower constant, and member the name at an enumeration's default place: other shapes look at neither.
-pub fn implicit_default(shape: Shape, least: Constant, member: u32) -> Leaf
-    ensures { λ r. ⌜ asTree (resultOf r) ≡ implicitBy shape least member ⌝ }
+// Least is a subrange's lower constant, member the name at an enumeration's default place, and setting the default string length: other shapes look at none of them.
+pub fn implicit_default(shape: Shape, least: Constant, member: u32, setting: u32) -> Leaf
+    ensures { λ r. ⌜ asTree (resultOf r) ≡ implicitBy shape least member setting ⌝ }
 {
     match shape {
         Shape::Bool => zero_of(0, 0),
@@ -58,7 +60,7 @@ pub fn implicit_default(shape: Shape, least: Constant, member: u32) -> Leaf
         Shape::Date { bits } => zero_of(6, long(bits)),
         Shape::TimeOfDay { bits } => zero_of(5, long(bits)),
         Shape::DateAndTime { bits } => zero_of(7, long(bits)),
-        Shape::String { .. } => Leaf::None,
+        Shape::String { length, width } => cut_string(length, width, 0, 0, setting),
         Shape::Enumeration {
             first: _,
             count,
@@ -71,6 +73,7 @@ pub fn implicit_default(shape: Shape, least: Constant, member: u32) -> Leaf
             Leaf::None
         }
         Shape::Subrange { .. } => as_integer(least),
+        Shape::Reference { .. } => Leaf::Value(null()),
         _ => Leaf::None,
     }
 }

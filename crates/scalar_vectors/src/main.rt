@@ -1,4 +1,4 @@
-// Replays stored conversions (vectors/scalars): a file after its count; then, after their number, pairs of a shape and a constant of it, each with the answer and with what
+// Replays stored conversions (vectors/scalars): a file after its count; then, after their number, pairs of a shape and a constant of it, each with 0 for a value or 1 for none, and with what
 // the first six words of the lent slice hold afterwards; until the input ends.
 // Prints how many were right, and the shape and the constant of each that was not.
 ghost use Prim.Native.Nat.{_<_, _≤_};
@@ -33,10 +33,18 @@ fn same_words(out: [u32; 7], pair: [u32; 9]) -> bool {
     out[6] == LENT
 }
 
+// What the library answers for a stored state: 1 node for a value, 0 for none.
+fn answer_for(state: u32) -> u64 {
+    if state == 0 {
+        return 1;
+    }
+    0
+}
+
 fn is_right(file: &[u32], pair: [u32; 9]) -> bool {
     let mut out = [LENT; 7];
     let answer = wirkesu_convert(file, pair[0], pair[1], &mut out);
-    if answer == pair[2] {
+    if answer == answer_for(pair[2]) {
         return same_words(out, pair);
     }
     false

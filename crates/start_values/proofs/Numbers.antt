@@ -1,33 +1,66 @@
--- Document 01's number for an answer. Assumes nothing.
+-- Answers as numbers. Assumes nothing.
 use mathlib.Core.Path.{_≡_, refl, ap, sym, _∙_}
 use mathlib.Core.Bool.{Bool, true, false}
-use mathlib.Core.List.{List}
-use Prim.Native.Nat.{ℕ}
+use mathlib.Core.List.{List, []}
+use Prim.Native.Nat.{ℕ, _*_, _^_}
 use lib.Dec.{eqb}
 use borrow.Author.Needs.{needs}
 use borrow.Author.Tests.{eqb-true}
 use Rattle.definition.specs.declared.answers.Acceptance.{Acceptance}
-use Rattle.definition.specs.declared.answers.Acceptance.the-variants.{Accepted, Refused}
+use Rattle.definition.specs.declared.answers.Acceptance.the-variants as acceptance
+use Rattle.definition.specs.declared.answers.WorkWords.{WorkWords}
+use Rattle.definition.specs.declared.answers.WorkWords.the-variants as workWords
+use Rattle.definition.specs.declared.answers.TreeAnswer.{TreeAnswer}
+use Rattle.definition.specs.declared.answers.TreeAnswer.the-variants as tree
 use Rattle.definition.specs.Base.{choose}
 use Rattle.definition.specs.Accept.{verdict}
-use Rattle.definition.specs.Answers.{acceptAnswer, says, acceptanceSays}
+use Rattle.definition.specs.Answers.{Says, refuses, says, acceptanceSays, wordsSay, treeSays, passCode, packed, valueCode, acceptAnswer}
 
-pub says-verdict : (f : List ℕ) → acceptanceSays (acceptAnswer f) .refusal ≡ verdict f
-unfolding acceptAnswer acceptanceSays says
-says-verdict f = go (eqb (verdict f) 0) refl
+-- ---- code.rt: a law for each return
+pub accepted-code : {a : Acceptance} → a ≡ acceptance.Accepted → 0 ≡ passCode (acceptanceSays a)
+unfolding passCode acceptanceSays
+accepted-code e = rw e
+
+pub refused-code : {a : Acceptance} {n : ℕ} → a ≡ acceptance.Refused n → n ≡ passCode (acceptanceSays a)
+unfolding passCode acceptanceSays
+refused-code e = rw e
+
+pub words-counted : {a : WorkWords} {n : ℕ} → a ≡ workWords.Words n → n ≡ valueCode (wordsSay a)
+unfolding valueCode packed wordsSay
+words-counted e = rw e
+
+pub words-refused : {a : WorkWords} {n : ℕ} → a ≡ workWords.Refused n → {r : ℕ} → r ≡ n * 2 ^ 32 → r ≡ valueCode (wordsSay a)
+unfolding valueCode wordsSay
+words-refused e h = rw e h
+
+pub tree-counted : {a : TreeAnswer} {n : ℕ} → a ≡ tree.Tree n → n ≡ valueCode (treeSays a)
+unfolding valueCode packed treeSays
+tree-counted e = rw e
+
+pub tree-none : {a : TreeAnswer} → a ≡ tree.None → 0 ≡ valueCode (treeSays a)
+unfolding valueCode packed treeSays
+tree-none e = rw e
+
+pub tree-refused : {a : TreeAnswer} {n : ℕ} → a ≡ tree.Refused n → {r : ℕ} → r ≡ n * 2 ^ 32 → r ≡ valueCode (treeSays a)
+unfolding valueCode treeSays
+tree-refused e h = rw e h
+
+-- ---- the number of an answer is that of what it says
+pub passes-so : {s t : Says} {r : ℕ} → r ≡ passCode s → s ≡ t → r ≡ passCode t
+passes-so e h = rw (← h) e
+
+pub says-so : {s t : Says} {r : ℕ} → r ≡ valueCode s → s ≡ t → r ≡ valueCode t
+says-so e h = rw (← h) e
+
+-- ---- a file's refusal
+pub verdict-code : (f : List ℕ) {r : ℕ} → r ≡ passCode (acceptAnswer f) → r ≡ verdict f
+unfolding acceptAnswer passCode
+verdict-code f e = e ∙ go (eqb (verdict f) 0) refl
   where
-    go : (b : Bool) → eqb (verdict f) 0 ≡ b
-        → acceptanceSays (choose b (λ u. Accepted) (λ u. Refused (verdict f))) .refusal ≡ verdict f
+    go : (b : Bool) → eqb (verdict f) 0 ≡ b → passCode (choose b (λ u. says 0 []) (λ u. refuses (verdict f))) ≡ verdict f
     go true q = sym (eqb-true (verdict f) 0 q)
     go false q = refl
 
-module _ (f : List ℕ) {r : Acceptance} (is : r ≡ acceptAnswer f) where
-  pub accepted-number : r ≡ Accepted → 0 ≡ verdict f
-  unfolding acceptanceSays says
-  accepted-number e = ap (λ a. acceptanceSays a .refusal) (sym e ∙ is) ∙ says-verdict f
+pub ruleset codes = (needs, accepted-code, refused-code, words-counted, words-refused, tree-counted, tree-none, tree-refused)
 
-  pub refused-number : {n : ℕ} → r ≡ Refused n → n ≡ verdict f
-  unfolding acceptanceSays says
-  refused-number e = ap (λ a. acceptanceSays a .refusal) (sym e ∙ is) ∙ says-verdict f
-
-pub ruleset numbers = (needs, accepted-number, refused-number)
+pub ruleset numbers = (needs, passes-so, says-so)

@@ -1,17 +1,19 @@
 // A constant of a file as the node that it gives a place of one of the file's shapes.
 ghost use mathlib.Core.Path.{_≡_};
-ghost use lib.Dec.{leb};
 ghost use lib.ListN.{length};
-ghost use Rattle.definition.specs.Base.{pick};
 ghost use Rattle.definition.specs.Tree.{flatten, constantTree};
+ghost use Rattle.definition.specs.Ask.{ok};
 ghost use Rattle.definition.specs.Scalar as scalar;
 ghost use Rattle.definition.specs.Records.{shapeAt, constantAt};
-ghost use Rattle.definition.specs.Answers.{over};
+ghost use Rattle.definition.specs.Answers.{over, treeSays, treeAnswer, valueCode};
 ghost use Rattle.scalar.specs.Node.{resultOf};
 ghost use Rattle.start_values.specs.Convert as Convert;
-ghost use Rattle.start_values.specs.Convert.{convertRefused, convertAnswer, convertWords, numberOf};
+ghost use Rattle.start_values.specs.Convert.{convertRefused, convertAnswer, convertOut};
+use crate::code::tree_code;
 use crate::wirkesu_accept;
+use definition::answers::TreeAnswer;
 use definition::layout::CONSTANTS;
+use definition::layout::NODE_WORDS;
 use definition::layout::SHAPES;
 use definition::records::Constant;
 use places::values::converted;
@@ -21,14 +23,6 @@ use records::words::count;
 use records::words::find_sections;
 use scalar::node::Leaf;
 use scalar::node::node;
-
-const NODE_WORDS: usize = 6;
-// A refusal's number in an answer is this and document 01's.
-const REFUSED: u32 = 100;
-// The shape or the constant isn't in the file.
-const NOT_THERE: u32 = 7;
-// The lent slice is shorter than the answer.
-const TOO_SHORT: u32 = 10;
 
 fn value_at(file: &[u32], shape: u32, constant: u32) -> Leaf
     ensures { λ r. ⌜ resultOf r ≡ scalar.converted (now (file .entry)) (shapeAt (now (file .entry)) shape) (constantAt (now (file .entry)) constant) ⌝ }
@@ -59,16 +53,16 @@ fn refused(file: &[u32], shape: u32, constant: u32) -> u32
     if there(file, shape, constant) {
         return 0;
     }
-    NOT_THERE
+    7
 }
 
 // Writes a constant's node where there is room.
-fn put(c: Constant, out: &mut [u32]) -> u32
-    ensures says { λ r. ⌜ r ≡ pick (leb 6 (length (now (out .entry)))) 0 110 ⌝ }
+fn put(c: Constant, out: &mut [u32]) -> TreeAnswer
+    ensures says { λ r. ⌜ treeSays r ≡ treeAnswer (ok (constantTree c)) (length (now (out .entry))) ⌝ }
     ensures wrote { λ _. ⌜ now (out .exit) ≡ over (flatten (constantTree c)) (now (out .entry)) ⌝ }
 {
     if out.len() < NODE_WORDS {
-        return REFUSED + TOO_SHORT;
+        return TreeAnswer::Refused(10);
     }
     let words = node(c);
     out[0] = words[0];
@@ -77,22 +71,30 @@ fn put(c: Constant, out: &mut [u32]) -> u32
     out[3] = words[3];
     out[4] = words[4];
     out[5] = words[5];
-    0
+    TreeAnswer::Tree(1)
 }
 
-// 0 with the node's six words at the front of out; 1 for none and 100 + n for refusal n, which leave out as it was.
-#[no_mangle]
-pub extern "C" fn wirkesu_convert(file: &[u32], shape: u32, constant: u32, out: &mut [u32]) -> u32
-    ensures says { λ r. ⌜ r ≡ numberOf (convertAnswer (now (file .entry)) shape constant (length (now (out .entry)))) ⌝ }
-    ensures wrote { λ _. ⌜ now (out .exit) ≡ convertWords (now (file .entry)) shape constant (now (out .entry)) ⌝ }
+fn convert(file: &[u32], shape: u32, constant: u32, out: &mut [u32]) -> TreeAnswer
+    ensures says { λ r. ⌜ treeSays r ≡ convertAnswer (now (file .entry)) shape constant (length (now (out .entry))) ⌝ }
+    ensures wrote { λ _. ⌜ now (out .exit) ≡ convertOut (now (file .entry)) shape constant (now (out .entry)) ⌝ }
 {
     let refusal = refused(file, shape, constant);
     if refusal != 0 {
-        return REFUSED + refusal;
+        return TreeAnswer::Refused(refusal);
     }
     let leaf = value_at(file, shape, constant);
     match leaf {
         Leaf::Value(c) => put(c, out),
-        Leaf::None => 1,
+        Leaf::None => TreeAnswer::None,
     }
+}
+
+// 1 with the node's six words at the front of out, or 0 for none; a refusal in the high word. None and refusals leave out as it was.
+#[no_mangle]
+pub extern "C" fn wirkesu_convert(file: &[u32], shape: u32, constant: u32, out: &mut [u32]) -> u64
+    ensures says { λ r. ⌜ r ≡ valueCode (convertAnswer (now (file .entry)) shape constant (length (now (out .entry)))) ⌝ }
+    ensures wrote { λ _. ⌜ now (out .exit) ≡ convertOut (now (file .entry)) shape constant (now (out .entry)) ⌝ }
+{
+    let answer = convert(file, shape, constant, out);
+    tree_code(answer)
 }

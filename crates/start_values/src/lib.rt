@@ -1,19 +1,35 @@
-// The functions that C and Rust link, over numbers and slices.
+// The functions that C and Rust link, over numbers and slices. What each number says is `passCode` and `valueCode` of the definition (specs/Answers.antt).
 ghost use mathlib.Core.Path.{_≡_};
-ghost use Rattle.definition.specs.Accept.{verdict};
-use definition::answers::Acceptance;
-use records::accept::accept;
+ghost use Rattle.definition.specs.Answers.{acceptAnswer, wordsAnswer, lineWords, roomWords, passCode, valueCode};
+use crate::code::acceptance_code;
+use crate::code::words_code;
+use acceptance::accept::accept;
+use acceptance::work::line_words;
+use acceptance::work::room_words;
 
+pub mod code;
 pub mod convert;
 
 // 0 for an accepted file, or its first refusal of 1 to 6.
 #[no_mangle]
 pub extern "C" fn wirkesu_accept(file: &[u32]) -> u32
-    ensures { λ r. ⌜ r ≡ verdict (now (file .entry)) ⌝ }
+    ensures { λ r. ⌜ r ≡ passCode (acceptAnswer (now (file .entry))) ⌝ }
 {
-    let answer = accept(file);
-    match answer {
-        Acceptance::Accepted => 0,
-        Acceptance::Refused(n) => n,
-    }
+    acceptance_code(accept(file))
+}
+
+// How many words `lines` must have, or the file's refusal in the high word.
+#[no_mangle]
+pub extern "C" fn wirkesu_line_words(file: &[u32]) -> u64
+    ensures { λ r. ⌜ r ≡ valueCode (wordsAnswer (now (file .entry)) (lineWords (now (file .entry)))) ⌝ }
+{
+    words_code(line_words(file))
+}
+
+// How many words `room` must have, or the file's refusal in the high word.
+#[no_mangle]
+pub extern "C" fn wirkesu_room_words(file: &[u32]) -> u64
+    ensures { λ r. ⌜ r ≡ valueCode (wordsAnswer (now (file .entry)) (roomWords (now (file .entry)))) ⌝ }
+{
+    words_code(room_words(file))
 }

@@ -2,8 +2,7 @@
 ghost use mathlib.Core.Path.{_≡_};
 ghost use Rattle.definition.specs.Sheet.{partsOf};
 ghost use Rattle.tree.specs.Extent.{afterOf, wholeOf, treeOf};
-
-pub const NODE_WORDS: usize = 6;
+use definition::layout::NODE_WORDS;
 
 // Where words end, or that they are not there.
 pub enum Extent {

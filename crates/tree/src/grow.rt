@@ -5,8 +5,6 @@ ghost use Rattle.definition.specs.Tree.{mostNodes};
 ghost use Rattle.tree.specs.Grow.{Gathered, Repeated, inOrder, Ordered, orderedOf, replacedOf, Room, Within, Spliced, Replaced, Assigned};
 ghost use Rattle.tree.specs.Words.{WroteRun};
 use crate::extent::Extent;
-use crate::extent::NODE_WORDS;
-use crate::limit::MOST_NODES;
 use crate::limit::may_gather;
 use crate::limit::may_repeat;
 use crate::node::set_name;
@@ -15,6 +13,8 @@ use crate::words::copy;
 use crate::words::fits;
 use crate::words::move_words;
 use crate::words::nodes_fit;
+use definition::layout::MOST_NODES;
+use definition::layout::NODE_WORDS;
 
 // Words from a place up to another.
 pub struct Span {

@@ -5,8 +5,7 @@ ghost use lib.Dec.{leb};
 ghost use Rattle.definition.specs.Tree.{mostNodes};
 ghost use Rattle.tree.specs.Limit.{addedOf, copiedOf};
 use crate::words::fits;
-
-pub const MOST_NODES: usize = 2048;
+use definition::layout::MOST_NODES;
 
 // Whether values fit behind those that there are, or what they would be first: too large, or too many for the places.
 pub enum Added {

@@ -7,8 +7,8 @@ ghost use Rattle.definition.specs.Tree.{flatten, leaf};
 ghost use Rattle.tree.specs.Node.{nodeOf, nodeAt, wordsOf, headWords, Renamed};
 ghost use Rattle.tree.specs.Words.{WroteNode};
 use crate::extent::Extent;
-use crate::extent::NODE_WORDS;
 use crate::words::fits;
+use definition::layout::NODE_WORDS;
 
 pub struct Node {
     pub name: u32,

@@ -2,12 +2,12 @@
 ghost use mathlib.Core.Path.{_≡_};
 ghost use Rattle.tree.specs.Part.{valueOf, valueAt, seek, findOf, nthOf, partOf};
 use crate::extent::Extent;
-use crate::extent::NODE_WORDS;
 use crate::extent::after;
 use crate::extent::parts_of;
 use crate::extent::whole;
 use crate::node::NodeAt;
 use crate::node::read;
+use definition::layout::NODE_WORDS;
 
 // A value's kind, with how many parts it has.
 pub enum Value {

@@ -7,7 +7,7 @@ ghost use lib.ListN.{length, take, drop};
 ghost use lib.Seq.{paste};
 ghost use Rattle.tree.specs.Words.{WroteCopy, WroteShift, Copyable, apart, movable, Moves, rept};
 use crate::extent::Extent;
-use crate::extent::NODE_WORDS;
+use definition::layout::NODE_WORDS;
 
 // Whether so many words from a place on lie within a length.
 pub fn fits(length: usize, at: usize, count: usize) -> bool

@@ -1,15 +1,18 @@
 //! `linked SEED COUNT`: runs COUNT generated files, a damaged copy of each and
 //! as many files of random words through the proved static library and
-//! through `files::verdict`, and prints how many had each verdict. Then the
+//! through `files::verdict`, and prints how many had each verdict; the numbers
+//! of work words are compared too. Then the
 //! time of both on the largest file, every section at its limit. Fails on any
 //! difference.
 
 mod random_files;
+mod wanted;
 
 use std::env;
 use std::process::exit;
 use std::time::Instant;
 
+use files::layout::File;
 use files::verdict::verdict;
 use generate::damage::damage;
 use generate::{file, Size};
@@ -18,6 +21,8 @@ use random_files::random_file;
 extern "C" {
     /// A slice passes as a pointer and a length (crates/start_values).
     fn wirkesu_accept(file: *const u32, length: usize) -> u32;
+    fn wirkesu_line_words(file: *const u32, length: usize) -> u64;
+    fn wirkesu_room_words(file: *const u32, length: usize) -> u64;
 }
 
 fn accepted(words: &[u32]) -> u32 {
@@ -25,11 +30,36 @@ fn accepted(words: &[u32]) -> u32 {
     unsafe { wirkesu_accept(words.as_ptr(), words.len()) }
 }
 
+/// The words that each work slice must have: a refusal in the high word, or
+/// their number.
+fn work_words(words: &[u32]) -> [u64; 2] {
+    // The library reads the slice's words and keeps nothing.
+    unsafe {
+        [
+            wirkesu_line_words(words.as_ptr(), words.len()),
+            wirkesu_room_words(words.as_ptr(), words.len()),
+        ]
+    }
+}
+
+/// The same by docs/WORK.md.
+fn wanted_words(words: &[u32], refusal: u32) -> [u64; 2] {
+    match File::open(words) {
+        Some(file) if refusal == 0 => [wanted::lines(&file), wanted::room(&file)],
+        _ => [u64::from(refusal) << 32; 2],
+    }
+}
+
 /// Counts the verdict, or ends the run where the two differ.
 fn compare(counts: &mut [u64; 7], what: &str, number: u64, words: &[u32]) {
     let (ours, theirs) = (accepted(words), verdict(words));
     if ours != theirs {
         eprintln!("{what} {number}: the library answers {ours}, document 01's reading {theirs}");
+        exit(1);
+    }
+    let (ours, wanted) = (work_words(words), wanted_words(words, theirs));
+    if ours != wanted {
+        eprintln!("{what} {number}: the library wants {ours:?} work words, docs/WORK.md {wanted:?}");
         exit(1);
     }
     counts[theirs as usize] += 1;

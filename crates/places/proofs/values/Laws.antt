@@ -17,8 +17,7 @@ use Rattle.definition.specs.Layout.{word, count, countAt, behind, recordWords, 
 use Rattle.definition.specs.Records.{constantAt}
 use Rattle.definition.specs.Accept.{endsRight}
 use Rattle.definition.specs.Ask.{Result, none, Outcome}
-use Rattle.definition.specs.Iec.{implicitScalar}
-use Rattle.definition.specs.Scalar.{converted, asTree, constantValue, enumeratedValue}
+use Rattle.definition.specs.Scalar.{converted, asTree, constantValue, builtIn, enumeratedValue}
 use Rattle.laws.specs.Accepted.{Accepted}
 use Rattle.records.specs.Starts.{StartsOf}
 use Rattle.records.proofs.Starting.{start-most}
@@ -98,7 +97,7 @@ pub no-enumeration : (f : List ℕ) (s : Shape) (value qualifier : ℕ) → NoMe
 unfolding enumeratedValue asTree
 no-enumeration f s value qualifier h = no-members none s _ h
 
--- ---- `default_name`, `implicit_scalar`
+-- ---- `default_name`, `built_in`
 pub default-member : (f : List ℕ) {s : Shape} {first many default underlying r : ℕ} → s ≡ shape.Enumeration first many default underlying
     → r ≡ word f members (first + default) 0 → DefaultName f s r
 default-member f e h = record { of-enumeration = λ a b c d q. cc }
@@ -107,9 +106,9 @@ pub no-default : (f : List ℕ) (s : Shape) (r : ℕ) → NoMembers s → Defaul
 no-default f s r h = record { of-enumeration = λ a b c d e. absurd (miss memberless 10 tt (rw e at h)) }
 
 pub implicit-in : (f : List ℕ) (s : Shape) {low high : Constant} → Bounds f s low high → {member : ℕ} → DefaultName f s member
-    → {r : Outcome} → r ≡ implicitBy s low member → r ≡ implicitScalar f s
-implicit-in f s {low} b {member} d h =
-    h ∙ implicit-is f s low member
+    → {setting : ℕ} → setting ≡ word f settings 0 0 → {r : Outcome} → r ≡ implicitBy s low member setting → r ≡ builtIn f s
+implicit-in f s {low} b {member} d w h =
+    (h ∙ ap (implicitBy s low member) w) ∙ implicit-is f s low member
     (record { of-subrange = λ base l g e. b .of-subrange base l g e .0; of-enumeration = λ first many default underlying e l. d .of-enumeration first many default underlying e })
 
 pub ruleset laws =

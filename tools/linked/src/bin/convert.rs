@@ -22,7 +22,7 @@ extern "C" {
         constant: u32,
         out: *mut u32,
         out_length: usize,
-    ) -> u32;
+    ) -> u64;
 }
 
 /// What stands in a lent slice before a call.
@@ -44,6 +44,11 @@ const NODE_WORDS: usize = 6;
 /// Document 01's refusals of a number that isn't there and of a short slice.
 const NOT_THERE: u32 = 7;
 const SHORT: u32 = 10;
+
+/// A refusal stands in the high word of an answer.
+fn refused(number: u32) -> u64 {
+    u64::from(number) << 32
+}
 
 /// A constant's value at a place, or none.
 type Value = Option<[u32; NODE_WORDS]>;
@@ -77,7 +82,7 @@ impl Counts {
 
 /// Calls the library with an out of `length` words, and ends the run unless
 /// it answers `answer` and leaves `node` at the front of out.
-fn compare(file: &[u32], shape: u32, constant: u32, length: usize, answer: u32, node: Value) {
+fn compare(file: &[u32], shape: u32, constant: u32, length: usize, answer: u64, node: Value) {
     let mut expected = LENT;
     if let Some(node) = node {
         expected[..NODE_WORDS].copy_from_slice(&node);
@@ -129,11 +134,11 @@ fn compare_pairs(counts: &mut Counts, random: &mut Random, pairs: &Pairs) {
         let kind = pairs.shape(shape)[0] as usize;
         let none = usize::from(value.is_none());
         let length = random.between(NODE_WORDS as u32, LENT.len() as u32) as usize;
-        compare(&file, shape, constant, length, none as u32, value);
+        compare(&file, shape, constant, length, [1, 0][none], value);
         counts.pairs[kind][none] += 1;
         if random.percent(10) {
             let length = random.below(NODE_WORDS as u32) as usize;
-            let answer = [100 + SHORT, 1][none];
+            let answer = [refused(SHORT), 0][none];
             compare(&file, shape, constant, length, answer, None);
             counts.short[none] += 1;
         }
@@ -152,7 +157,7 @@ fn compare_numbers(counts: &mut Counts, random: &mut Random, pairs: &Pairs) {
             _ => (shapes + past, constants + past),
         };
         let length = random.below(LENT.len() as u32 + 1) as usize;
-        compare(&file, shape, constant, length, 100 + NOT_THERE, None);
+        compare(&file, shape, constant, length, refused(NOT_THERE), None);
         counts.refused[NOT_THERE as usize] += 1;
     }
 }
@@ -168,7 +173,7 @@ fn compare_damaged(counts: &mut Counts, random: &mut Random, number: u64, pairs:
         let shape = random.below(pairs.shapes() + 2);
         let constant = random.below(pairs.constants() + 2);
         let length = random.below(LENT.len() as u32 + 1) as usize;
-        compare(&file, shape, constant, length, 100 + refusal, None);
+        compare(&file, shape, constant, length, refused(refusal), None);
         counts.refused[refusal as usize] += 1;
     }
 }

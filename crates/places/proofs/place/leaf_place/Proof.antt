@@ -2,7 +2,7 @@
 use Rattle.definition.specs.Places.{innermost, leafPlace}
 use Rattle.laws.specs.Accepted.{Accepted}
 use Rattle.records.specs.Starts.{StartsOf}
-use Rattle.records.specs.Classes.{Classes}
+use Rattle.shapes.specs.Classes.{Classes}
 use Rattle.places.specs.Inside.{PlaceIn}
 use Rattle.places.proofs.Steps.{Comes}
 use Rattle.places.proofs.place.Laws.{laws}

@@ -10,7 +10,6 @@ pub put-spec : {M : Type 1} → statement M
 put-spec =
     tie.close
     (tie.spec
-    (λ c. search needs)
     (λ c. search conversions)
     (λ c κs. search needs)
     (λ c. search needs)

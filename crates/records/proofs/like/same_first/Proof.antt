@@ -1,8 +1,0 @@
--- `like::same_first` meets its contract. Assumes nothing.
-use borrow.Author.Needs.{needs}
-use Rattle.records.proofs.Comparing.{first-is}
-use Rattle.records.proofs.like.same_first.Statement.{statement}
-use Rattle.records.proofs.like.same_first.Tie as tie
-
-pub same-first-spec : {M : Type 1} → statement M
-same-first-spec = tie.close (tie.spec (λ c κs. search needs) (λ c. search first-is))

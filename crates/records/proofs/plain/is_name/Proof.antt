@@ -1,9 +1,0 @@
--- `plain::is_name` meets its contract. Assumes nothing.
-use Rattle.definition.specs.Accept.{isName}
-use borrow.Author.Needs.{needs}
-use Rattle.records.proofs.plain.is_name.Statement.{statement}
-use Rattle.records.proofs.plain.is_name.Tie as tie
-
-pub is-name-spec : {M : Type 1} → statement M
-unfolding isName
-is-name-spec = tie.close (tie.spec (λ c. search needs))

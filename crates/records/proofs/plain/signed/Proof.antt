@@ -1,7 +1,0 @@
--- `plain::signed` meets its contract. Assumes nothing.
-use borrow.Author.Needs.{needs}
-use Rattle.records.proofs.plain.signed.Statement.{statement}
-use Rattle.records.proofs.plain.signed.Tie as tie
-
-pub signed-spec : {M : Type 1} → statement M
-signed-spec = tie.close (tie.spec (λ c κs. search needs) (λ c. rw (c .unused2 .ensures)))

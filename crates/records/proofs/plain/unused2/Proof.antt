@@ -1,9 +1,0 @@
--- `plain::unused2` meets its contract. Assumes nothing.
-use Rattle.definition.specs.Base.{unused}
-use borrow.Author.Needs.{needs}
-use Rattle.records.proofs.plain.unused2.Statement.{statement}
-use Rattle.records.proofs.plain.unused2.Tie as tie
-
-pub unused2-spec : {M : Type 1} → statement M
-unfolding unused
-unused2-spec = tie.close (tie.spec (λ c κs. search needs) (λ c. rw (c .unused1 .ensures)))

@@ -1,9 +1,0 @@
--- `plain::unused4` meets its contract. Assumes nothing.
-use Rattle.definition.specs.Base.{unused}
-use borrow.Author.Needs.{needs}
-use Rattle.records.proofs.plain.unused4.Statement.{statement}
-use Rattle.records.proofs.plain.unused4.Tie as tie
-
-pub unused4-spec : {M : Type 1} → statement M
-unfolding unused
-unused4-spec = tie.close (tie.spec (λ c κs. search needs) (λ c. rw (c .unused3 .ensures)))

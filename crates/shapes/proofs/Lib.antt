@@ -1,0 +1,4 @@
+pub mod Classing
+pub mod Comparing
+pub mod Keying
+pub mod Multiplying

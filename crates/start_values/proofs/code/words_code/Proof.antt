@@ -1,0 +1,14 @@
+-- `code::words_code` meets its contract. Assumes nothing.
+use Rattle.start_values.proofs.Numbers.{codes}
+use Rattle.start_values.proofs.code.words_code.Statement.{statement}
+use Rattle.start_values.proofs.code.words_code.Tie as tie
+
+pub words-code-spec : {M : Type 1} → statement M
+words-code-spec =
+    tie.close
+    (tie.spec
+    (λ c. search codes)
+    (λ c. search codes)
+    (λ c κs. search codes)
+    (λ c. search codes)
+    (λ c. search codes))

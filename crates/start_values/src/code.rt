@@ -1,0 +1,41 @@
+// Answers as numbers, for C: the refusal's number alone where a function only passes or refuses; else it stands in the high word, and the value in the low one.
+ghost use mathlib.Core.Path.{_≡_};
+ghost use Prim.Native.Nat.{_*_, _^_};
+ghost use Rattle.definition.specs.Answers.{acceptanceSays, wordsSay, treeSays, passCode, valueCode};
+use definition::answers::Acceptance;
+use definition::answers::TreeAnswer;
+use definition::answers::WorkWords;
+
+pub fn acceptance_code(answer: Acceptance) -> u32
+    ensures { λ r. ⌜ r ≡ passCode (acceptanceSays answer) ⌝ }
+{
+    match answer {
+        Acceptance::Accepted => 0,
+        Acceptance::Refused(n) => n,
+    }
+}
+
+fn refusal_code(n: u32) -> u64
+    ensures { λ r. ⌜ r ≡ n * 2 ^ 32 ⌝ }
+{
+    (n as u64) * 0x1_0000_0000
+}
+
+pub fn words_code(answer: WorkWords) -> u64
+    ensures { λ r. ⌜ r ≡ valueCode (wordsSay answer) ⌝ }
+{
+    match answer {
+        WorkWords::Words(n) => n as u64,
+        WorkWords::Refused(n) => refusal_code(n),
+    }
+}
+
+pub fn tree_code(answer: TreeAnswer) -> u64
+    ensures { λ r. ⌜ r ≡ valueCode (treeSays answer) ⌝ }
+{
+    match answer {
+        TreeAnswer::Tree(nodes) => nodes as u64,
+        TreeAnswer::None => 0,
+        TreeAnswer::Refused(n) => refusal_code(n),
+    }
+}
