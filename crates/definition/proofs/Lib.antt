@@ -4,6 +4,8 @@ pub mod Files2
 pub mod Files3
 pub mod Files4
 pub mod Files5
+pub mod Files6
 pub mod Refused0
 pub mod Refused1
 pub mod Refused2
+pub mod RefusedExamples0

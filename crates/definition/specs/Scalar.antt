@@ -98,7 +98,7 @@ unfoldable pub constantValue : List ℕ → Shape → Constant → Outcome
 constantValue f s c = asTree (converted f s c)
 
 -- ---- what a shape without parts starts at (`implicit_default`, and `implicit` for strings and references): IEC 61131-3, 6.4.2 and table 10
--- zero, as a constant of a kind; the date and time types count from their epoch here (docs/DIFFERENCES.md)
+-- zero, as a constant of a kind; table 10 leaves DATE and DATE_AND_TIME to the implementer: 1970-01-01, as for the long types
 unfoldable pub zeroOf : ℕ → ℕ → Outcome
 zeroOf kind width = ok (constantTree (constantOf kind 0 0 0 width))
 
