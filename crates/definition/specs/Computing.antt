@@ -1,4 +1,4 @@
--- All that lines, verdicts, uses and sheets compute with: a proof that names `computing` on its `unfolding` line closes a statement about a file by `refl`.
+-- All that lines, verdicts, uses, sheets and what the sheet program prints compute with: a proof that names `computing` on its `unfolding` line closes a statement about a file by `refl`.
 use Rattle.definition.specs.Base as Base
 use Rattle.definition.specs.Layout as Layout
 use Rattle.definition.specs.Records as Records
@@ -19,7 +19,8 @@ use Rattle.definition.specs.Uses as Uses
 use Rattle.definition.specs.Sheet as Sheet
 use Rattle.definition.specs.Depth as Depth
 use Rattle.definition.specs.Answers as Answers
+use Rattle.definition.specs.Program as Program
 
 unfoldable pub computing : Unit {0}
-unfolding Base.opened Layout.opened Records.opened Accept.opened Syntax.opened Tree.opened Ask.opened Iec.opened Ieee.opened Scalar.opened Places.opened Defaults.opened Resolve.opened Peek.opened Complete.opened Lines.opened Uses.opened Sheet.opened Depth.opened Answers.opened
+unfolding Base.opened Layout.opened Records.opened Accept.opened Syntax.opened Tree.opened Ask.opened Iec.opened Ieee.opened Scalar.opened Places.opened Defaults.opened Resolve.opened Peek.opened Complete.opened Lines.opened Uses.opened Sheet.opened Depth.opened Answers.opened Program.opened
 computing = tt

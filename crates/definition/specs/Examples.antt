@@ -2,55 +2,18 @@
 use mathlib.Core.Path.{_≡_, refl}
 use mathlib.Core.List.{List, [], _∷_, _++_, map}
 use Prim.Native.Nat.{ℕ}
-use lib.ListN.{length, take}
+use lib.ListN.{take}
 use Rattle.definition.specs.Base.{inline}
 use Rattle.definition.specs.Accept.{verdict}
 use Rattle.definition.specs.Lines.{typeLine, variableLine}
 use Rattle.definition.specs.Uses.{ranksOf}
 use Rattle.definition.specs.Sheet.{onRanking}
 use Rattle.definition.specs.Computing.{computing}
+use Rattle.definition.specs.ExampleFiles.{Records, sections, file, bool, int, type, variable, integer, subrange-of, alias-of, subrange-and-alias, circle, array-of, opened}
 
--- ---- files, section by section
-abbrev Records : Type 0
-Records = List (List ℕ)
-
-joinAll : Records → List ℕ
-joinAll [] = []
-joinAll (r ∷ rs) = r ++ joinAll rs
-
-section : Records → List ℕ
-section rs = length rs ∷ joinAll rs
-
-sections : List Records → List ℕ
-sections [] = []
-sections (s ∷ ss) = section s ++ sections ss
-
--- the fourteen sections; of Settings only the default string length
-file : ℕ → Records → Records → Records → Records → Records → Records → Records → Records → Records → List ℕ
-file length shapes dimensions types variables initializers entries expressions constants characters =
-    sections (
-    ((length ∷ []) ∷ []) ∷ shapes ∷ [] ∷ [] ∷ dimensions ∷ types ∷ [] ∷ [] ∷ variables ∷ initializers ∷ entries ∷ expressions ∷ constants ∷ characters ∷ [])
-
--- ---- records
-bool : List ℕ
-bool = 0 ∷ 0 ∷ 0 ∷ 0 ∷ 0 ∷ []
-
-int : ℕ → List ℕ
-int bits = 1 ∷ bits ∷ 0 ∷ 0 ∷ 0 ∷ []
-
+-- ---- records and files
 real : List ℕ
 real = 3 ∷ 32 ∷ 0 ∷ 0 ∷ 0 ∷ []
-
--- a type of a shape that nothing declares; its element type as a link
-type : ℕ → ℕ → List ℕ
-type shape element = shape ∷ 0 ∷ element ∷ 0 ∷ 0 ∷ 0 ∷ 0 ∷ 0 ∷ 0 ∷ inline ∷ 0 ∷ []
-
--- an internal variable of type t with initializer 0
-variable : ℕ → List ℕ
-variable t = 1 ∷ 4 ∷ t ∷ 0 ∷ []
-
-integer : ℕ → ℕ → List ℕ
-integer sign size = 1 ∷ sign ∷ size ∷ 0 ∷ 0 ∷ []
 
 true-literal : List ℕ
 true-literal = 0 ∷ 0 ∷ 1 ∷ 0 ∷ 0 ∷ []
@@ -76,17 +39,6 @@ string-3 : List ℕ
 string-3 =
     file 254 [] [] [] (variable 0 ∷ []) ((4 ∷ 0 ∷ 0 ∷ 1 ∷ 0 ∷ 0 ∷ 4 ∷ 0 ∷ []) ∷ []) [] [] ((8 ∷ 0 ∷ 0 ∷ 4 ∷ 0 ∷ []) ∷ [])
     ((65 ∷ []) ∷ (66 ∷ []) ∷ (67 ∷ []) ∷ (68 ∷ []) ∷ [])
-
--- a subrange 1..9 of the type that the link names, with start value 5; and a simple alias of the type that the link names
-subrange-of : ℕ → List ℕ
-subrange-of base = 1 ∷ 0 ∷ 0 ∷ 0 ∷ 2 ∷ base ∷ 3 ∷ 0 ∷ 0 ∷ inline ∷ 0 ∷ []
-
-alias-of : ℕ → List ℕ
-alias-of base = 1 ∷ base ∷ 0 ∷ 0 ∷ 1 ∷ 0 ∷ 1 ∷ 0 ∷ 0 ∷ inline ∷ 0 ∷ []
-
-subrange-and-alias : Records → ℕ → List ℕ
-subrange-and-alias types base =
-    file 254 (int 16 ∷ (13 ∷ 0 ∷ 0 ∷ 1 ∷ 0 ∷ []) ∷ []) [] types [] ((3 ∷ base ∷ 0 ∷ 0 ∷ 0 ∷ 0 ∷ 0 ∷ 0 ∷ []) ∷ []) [] [] (integer 0 1 ∷ integer 0 9 ∷ integer 0 5 ∷ []) []
 
 -- ---- questions and answers
 data Question : Type 0 where
@@ -146,13 +98,13 @@ rows =
     -- REAL 16777217 is 16777216, whose f64 has the bits 0x4170000000000000
     row (simple real (integer 0 16777217)) (variableIs 0) (leaf 3 0 0 0x41700000) ∷
     -- Type 0 a subrange 1..9 named type 1 with start value 5, type 1 a simple alias of 0: 5 and none
-    row (subrange-and-alias (subrange-of 2 ∷ alias-of 1 ∷ []) 1) (typeIs 0) (leaf 1 0 5 0) ∷
-    row (subrange-and-alias (subrange-of 2 ∷ alias-of 1 ∷ []) 1) (typeIs 1) none ∷
+    row circle (typeIs 0) (leaf 1 0 5 0) ∷
+    row circle (typeIs 1) none ∷
     -- numbered the other way both are 5
     row (subrange-and-alias (alias-of 2 ∷ subrange-of 1 ∷ []) 2) (typeIs 0) (leaf 1 0 5 0) ∷
     row (subrange-and-alias (alias-of 2 ∷ subrange-of 1 ∷ []) 2) (typeIs 1) (leaf 1 0 5 0) ∷
     -- 9 either way
-    row (subrange-and-alias (subrange-of 2 ∷ alias-of 1 ∷ []) 1) writing (9 ∷ []) ∷
+    row circle writing (9 ∷ []) ∷
     row (subrange-and-alias (alias-of 2 ∷ subrange-of 1 ∷ []) 2) writing (9 ∷ []) ∷
     []
 
@@ -186,23 +138,40 @@ refused =
     []
 
 refusals : map verdict refused ≡ 1 ∷ 1 ∷ 2 ∷ 3 ∷ 3 ∷ 4 ∷ 4 ∷ 4 ∷ 4 ∷ 5 ∷ 6 ∷ 0 ∷ 0 ∷ []
-unfolding computing refused shaped file sections section joinAll bool int type
+unfolding computing opened refused shaped
 refusals = refl
 
 -- ---- an array of 2,047 INT has a tree, 2,048 is too large
-array-of : ℕ → List ℕ
-array-of places = file 254 (int 16 ∷ (12 ∷ 0 ∷ 0 ∷ 1 ∷ 0 ∷ []) ∷ []) ((1 ∷ places ∷ []) ∷ []) (type 0 0 ∷ type 1 1 ∷ []) [] [] [] [] [] []
-
 -- state and count
-limit : take 2 (typeLine (array-of 2047) 1) ++ typeLine (array-of 2048) 1 ≡ 0 ∷ 2048 ∷ 2 ∷ 0 ∷ []
-unfolding computing array-of file sections section joinAll int type
+limit : take 2 (typeLine (array-of 2047 [] []) 1) ++ typeLine (array-of 2048 [] []) 1 ≡ 0 ∷ 2048 ∷ 2 ∷ 0 ∷ []
+unfolding computing opened
 limit = refl
+
+-- ---- declared types are resolved first, in rising number, and a type met again while in progress gives none (document 01, rules easily lost)
+-- the circle beside a type that neither uses
+circle-and-type : List ℕ
+circle-and-type = subrange-and-alias (subrange-of 2 ∷ alias-of 1 ∷ type 0 0 ∷ []) 1
+
+-- type 0 an array 1..1 of type 1 that nothing declares, type 1 a subrange 1..9 named type 0 with start value 5
+array-of-subrange : List ℕ
+array-of-subrange =
+    file 254 (int 16 ∷ (13 ∷ 0 ∷ 0 ∷ 1 ∷ 0 ∷ []) ∷ (12 ∷ 1 ∷ 0 ∷ 1 ∷ 0 ∷ []) ∷ []) ((1 ∷ 1 ∷ []) ∷ []) (type 2 2 ∷ subrange-of 1 ∷ []) [] [] [] []
+    (integer 0 1 ∷ integer 0 9 ∷ integer 0 5 ∷ []) []
+
+-- the subrange is 5 and the other none, whichever has the lower number
+in-progress : typeLine circle-and-type 0 ++ typeLine circle-and-type 1 ++ typeLine array-of-subrange 0 ++ typeLine array-of-subrange 1 ≡ leaf 1 0 5 0 ++ none ++ none ++ leaf 1 0 5 0
+unfolding computing opened leaf none circle-and-type array-of-subrange
+in-progress = refl
+
+in-progress-accepted : verdict circle-and-type ∷ verdict array-of-subrange ∷ [] ≡ 0 ∷ 0 ∷ []
+unfolding computing opened circle-and-type array-of-subrange
+in-progress-accepted = refl
 
 -- ---- every row's file is accepted, and every answer is the paper's
 accepted : map (λ r. verdict (r .about)) rows ≡ map (λ r. 0) rows
-unfolding computing rows row file sections section joinAll bool int real type variable integer true-literal array-123 constant-entry repeat-entry simple string-3 subrange-of alias-of subrange-and-alias
+unfolding computing opened rows row real true-literal array-123 constant-entry repeat-entry simple string-3
 accepted = refl
 
 starred : map (λ r. asked (r .question) (r .about)) rows ≡ map (λ r. r .is) rows
-unfolding computing asked rows row none leaf three file sections section joinAll bool int real type variable integer true-literal array-123 constant-entry repeat-entry simple string-3 subrange-of alias-of subrange-and-alias
+unfolding computing opened asked rows row none leaf three real true-literal array-123 constant-entry repeat-entry simple string-3
 starred = refl

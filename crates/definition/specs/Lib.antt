@@ -42,7 +42,17 @@ pub mod Sheet
 pub mod Depth
 -- what each public function answers and leaves in the lent words
 pub mod Answers
+-- what the sheet program prints
+pub mod Program
 -- the names that a statement about given words computes with
 pub mod Computing
+-- files for examples
+pub mod ExampleFiles
 -- document 01's examples
 pub mod Examples
+-- uses, ranks, sheets and what the check answers, on given files
+pub mod SheetExamples
+-- what the public functions answer and leave in the lent words
+pub mod AnswerExamples
+-- what the sheet program prints for given files
+pub mod ProgramExamples

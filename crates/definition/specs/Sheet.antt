@@ -7,6 +7,7 @@ use lib.ListN.{length, getD, take, drop}
 use Rattle.definition.specs.Base.{pick, choose, every}
 use Rattle.definition.specs.Layout.{count, types, variables}
 use Rattle.definition.specs.Accept.{need, verdict}
+use Rattle.definition.specs.Tree.{nodeWords}
 use Rattle.definition.specs.Lines.{typeLine, variableLine, completedLine}
 use Rattle.definition.specs.Uses.{Ranking, ranked, circle, ranksOf, rankAt, rising, uses}
 
@@ -56,7 +57,8 @@ pub data Cut : Type 0 where
 -- so many nodes that are one whole tree
 unfoldable pub treeCut : List ℕ → ℕ → List ℕ → Cut
 treeCut front many l =
-    choose (leb (6 * many) (length l) && areTrees (take (6 * many) l) 1) (λ u. cut (front ++ take (6 * many) l) (drop (6 * many) l)) (λ u. broken)
+    let size : ℕ = nodeWords * many in
+    choose (leb size (length l) && areTrees (take size l) 1) (λ u. cut (front ++ take size l) (drop size l)) (λ u. broken)
 
 -- no nodes
 unfoldable pub emptyCut : List ℕ → Bool → List ℕ → Cut

@@ -44,3 +44,4 @@ pub mod Cuts
 pub mod Passing
 pub mod Writing
 pub mod Demand
+pub mod Printing
