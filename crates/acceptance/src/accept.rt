@@ -13,23 +13,23 @@ use shapes::differ::shapes_differ;
 pub fn accept(file: &[u32]) -> Acceptance
     ensures { λ r. ⌜ acceptanceSays r ≡ acceptAnswer (now (file .entry)) ⌝ }
 {
-    let sections = find_sections(file);
-    if !ends_right(file, sections) {
+    let source = find_sections(file);
+    if !ends_right(file, &source) {
         return Acceptance::Refused(1);
     }
-    if !counts_right(file, sections) {
+    if !counts_right(file, &source) {
         return Acceptance::Refused(2);
     }
-    if !words_right(file, sections) {
+    if !words_right(file, &source) {
         return Acceptance::Refused(3);
     }
-    if !points_right(file, sections) {
+    if !points_right(file, &source) {
         return Acceptance::Refused(4);
     }
-    if !shapes_differ(file, sections) {
+    if !shapes_differ(file, &source) {
         return Acceptance::Refused(5);
     }
-    if !arrays_small(file, sections) {
+    if !arrays_small(file, &source) {
         return Acceptance::Refused(6);
     }
     Acceptance::Accepted

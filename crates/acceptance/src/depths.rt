@@ -13,7 +13,6 @@ ghost use Rattle.acceptance.specs.Nesting.{depthIn, Shallow, depthAt, co
 use definition::layout::ENTRIES;
 use definition::layout::SHAPE_FIELDS;
 use definition::layout::SHAPES;
-use records::words::Sections;
 use records::words::count;
 use records::words::run_word;
 use records::words::word;
@@ -32,14 +31,14 @@ pub enum Run {
 }
 
 // The depth that record `first + j` leads to.
-fn depth_at(file: &[u32], sections: Sections, run: Run, depths: &[u32], first: u32, j: u32) -> u32
-    requires { ⌜ StartsOf (now file) (sections .starts) ⌝ }
+fn depth_at(file: &[u32], source: &[usize], run: Run, depths: &[u32], first: u32, j: u32) -> u32
+    requires { ⌜ StartsOf (now file) (now source) ⌝ }
     ensures { λ r. ⌜ r ≡ depthAt (now (file .entry)) run (now (depths .entry)) (first + j) ⌝ }
 {
     match run {
         Run::Records => word_at(depths, (first as usize) + (j as usize)),
         Run::Fields => {
-            let shape = run_word(file, sections, SHAPE_FIELDS, first, j, 1);
+            let shape = run_word(file, source, SHAPE_FIELDS, first, j, 1);
             word_at(depths, shape as usize)
         }
     }
@@ -55,29 +54,22 @@ fn greater(a: u32, b: u32) -> u32
 }
 
 // The greatest depth that a run leads to, 0 where it is empty.
-fn deepest(file: &[u32], sections: Sections, run: Run, depths: &[u32], first: u32, many: u32) -> u32
-    requires { ⌜ StartsOf (now file) (sections .starts) ⌝ }
+fn deepest(file: &[u32], source: &[usize], run: Run, depths: &[u32], first: u32, many: u32) -> u32
+    requires { ⌜ StartsOf (now file) (now source) ⌝ }
     ensures { λ r. ⌜ r ≡ Depth.deepest (depthAt (now (file .entry)) run (now (depths .entry))) first many ⌝ }
 {
     let mut most: u32 = 0;
     for j in 0..many {
-        most = greater(most, depth_at(file, sections, run, depths, first, j));
+        most = greater(most, depth_at(file, source, run, depths, first, j));
     }
     most
 }
 
-fn over_run(
-    file: &[u32],
-    sections: Sections,
-    run: Run,
-    depths: &[u32],
-    first: u32,
-    many: u32,
-) -> u32
-    requires { ⌜ StartsOf (now file) (sections .starts) × Shallow (now depths) ⌝ }
+fn over_run(file: &[u32], source: &[usize], run: Run, depths: &[u32], first: u32, many: u32) -> u32
+    requires { ⌜ StartsOf (now file) (now source) × Shallow (now depths) ⌝ }
     ensures { λ r. ⌜ r ≡ suc (Depth.deepest (depthAt (now (file .entry)) run (now (depths .entry))) first many) ⌝ }
 {
-    deepest(file, sections, run, depths, first, many) + 1
+    deepest(file, source, run, depths, first, many) + 1
 }
 
 fn over_one(depths: &[u32], n: u32) -> u32
@@ -97,63 +89,63 @@ fn over_link(depths: &[u32], link: u32) -> u32
     over_one(depths, link - 1)
 }
 
-fn entry_depth(file: &[u32], sections: Sections, depths: &[u32], e: u32) -> u32
-    requires { ⌜ StartsOf (now file) (sections .starts) × Shallow (now depths) ⌝ }
+fn entry_depth(file: &[u32], source: &[usize], depths: &[u32], e: u32) -> u32
+    requires { ⌜ StartsOf (now file) (now source) × Shallow (now depths) ⌝ }
     ensures { λ r. ⌜ r ≡ Depth.entryDepthFrom (depthIn (now (depths .entry))) (entryAt (now (file .entry)) e) ⌝ }
 {
-    let kind = word(file, sections, ENTRIES, e, 0);
-    let a = word(file, sections, ENTRIES, e, 2);
-    let b = word(file, sections, ENTRIES, e, 3);
+    let kind = word(file, source, ENTRIES, e, 0);
+    let a = word(file, source, ENTRIES, e, 2);
+    let b = word(file, source, ENTRIES, e, 3);
     match kind {
-        2 => over_run(file, sections, Run::Records, depths, a, b),
-        3 => over_run(file, sections, Run::Records, depths, a, b),
+        2 => over_run(file, source, Run::Records, depths, a, b),
+        3 => over_run(file, source, Run::Records, depths, a, b),
         6 => over_link(depths, b),
         _ => 1,
     }
 }
 
-fn shape_depth(file: &[u32], sections: Sections, depths: &[u32], n: u32) -> u32
-    requires { ⌜ StartsOf (now file) (sections .starts) × Shallow (now depths) ⌝ }
+fn shape_depth(file: &[u32], source: &[usize], depths: &[u32], n: u32) -> u32
+    requires { ⌜ StartsOf (now file) (now source) × Shallow (now depths) ⌝ }
     ensures { λ r. ⌜ r ≡ Depth.shapeDepthFrom (now (file .entry)) (depthIn (now (depths .entry))) (shapeAt (now (file .entry)) n) ⌝ }
 {
-    let kind = word(file, sections, SHAPES, n, 0);
-    let a = word(file, sections, SHAPES, n, 1);
-    let b = word(file, sections, SHAPES, n, 2);
+    let kind = word(file, source, SHAPES, n, 0);
+    let a = word(file, source, SHAPES, n, 1);
+    let b = word(file, source, SHAPES, n, 2);
     match kind {
-        11 => over_run(file, sections, Run::Fields, depths, a, b),
+        11 => over_run(file, source, Run::Fields, depths, a, b),
         12 => over_one(depths, a),
         _ => 1,
     }
 }
 
-fn depth_of(file: &[u32], sections: Sections, nesting: Nesting, depths: &[u32], n: u32) -> u32
-    requires { ⌜ StartsOf (now file) (sections .starts) × Shallow (now depths) ⌝ }
+fn depth_of(file: &[u32], source: &[usize], nesting: Nesting, depths: &[u32], n: u32) -> u32
+    requires { ⌜ StartsOf (now file) (now source) × Shallow (now depths) ⌝ }
     ensures { λ r. ⌜ r ≡ depthFrom (now (file .entry)) nesting (depthIn (now (depths .entry))) n ⌝ }
 {
     match nesting {
-        Nesting::Entries => entry_depth(file, sections, depths, n),
-        Nesting::Shapes => shape_depth(file, sections, depths, n),
+        Nesting::Entries => entry_depth(file, source, depths, n),
+        Nesting::Shapes => shape_depth(file, source, depths, n),
     }
 }
 
-fn count_of(file: &[u32], sections: Sections, nesting: Nesting) -> u32
-    requires { ⌜ StartsOf (now file) (sections .starts) ⌝ }
+fn count_of(file: &[u32], source: &[usize], nesting: Nesting) -> u32
+    requires { ⌜ StartsOf (now file) (now source) ⌝ }
     ensures { λ r. ⌜ r ≡ countOf (now (file .entry)) nesting ⌝ }
 {
     match nesting {
-        Nesting::Entries => count(file, sections, ENTRIES),
-        Nesting::Shapes => count(file, sections, SHAPES),
+        Nesting::Entries => count(file, source, ENTRIES),
+        Nesting::Shapes => count(file, source, SHAPES),
     }
 }
 
 // Every depth, from those before it: records point only lower.
-fn fill(file: &[u32], sections: Sections, nesting: Nesting, many: u32, words: &mut [u32])
-    requires { ⌜ StartsOf (now file) (sections .starts) × Accepted (now file) × (many ≡ countOf (now file) nesting) × (many ≤ length (now words)) ⌝ }
+fn fill(file: &[u32], source: &[usize], nesting: Nesting, many: u32, words: &mut [u32])
+    requires { ⌜ StartsOf (now file) (now source) × Accepted (now file) × (many ≡ countOf (now file) nesting) × (many ≤ length (now words)) ⌝ }
     ensures { λ _. ⌜ Filled (depthOf (now (file .entry)) nesting) many (now (words .entry)) (now (words .exit)) ⌝ }
 {
     for n in 0..many {
         let at = n as usize;
-        let depth = depth_of(file, sections, nesting, &words[..at], n);
+        let depth = depth_of(file, source, nesting, &words[..at], n);
         words[at] = depth;
     }
 }
@@ -168,26 +160,26 @@ fn clear(words: &mut [u32], many: u32)
 }
 
 // The greatest depth of all entries, or of all shapes.
-fn greatest(file: &[u32], sections: Sections, nesting: Nesting, words: &mut [u32]) -> u32
-    requires { ⌜ StartsOf (now file) (sections .starts) × Accepted (now file) × (countOf (now file) nesting ≤ length (now words)) × (now words ≡ replicate (length (now words)) 0) ⌝ }
+fn greatest(file: &[u32], source: &[usize], nesting: Nesting, words: &mut [u32]) -> u32
+    requires { ⌜ StartsOf (now file) (now source) × Accepted (now file) × (countOf (now file) nesting ≤ length (now words)) × (now words ≡ replicate (length (now words)) 0) ⌝ }
     ensures is { λ r. ⌜ r ≡ Depth.deepest (depthOf (now (file .entry)) nesting) 0 (countOf (now (file .entry)) nesting) ⌝ }
     ensures cleared { λ _. ⌜ now (words .exit) ≡ now (words .entry) ⌝ }
 {
-    let many = count_of(file, sections, nesting);
-    fill(file, sections, nesting, many, words);
+    let many = count_of(file, source, nesting);
+    fill(file, source, nesting, many, words);
     let end = many as usize;
-    let most = deepest(file, sections, Run::Records, &words[..end], 0, many);
+    let most = deepest(file, source, Run::Records, &words[..end], 0, many);
     clear(words, many);
     most
 }
 
 // How many trees can be under construction at once. The words hold the depths of entries, then those of shapes, and end as they were.
-pub fn levels(file: &[u32], sections: Sections, words: &mut [u32]) -> u32
-    requires { ⌜ StartsOf (now file) (sections .starts) × Accepted (now file) × (Layout.count (now file) Layout.entries ≤ length (now words)) × (Layout.count (now file) Layout.shapes ≤ length (now words)) × (now words ≡ replicate (length (now words)) 0) ⌝ }
+pub fn levels(file: &[u32], source: &[usize], words: &mut [u32]) -> u32
+    requires { ⌜ StartsOf (now file) (now source) × Accepted (now file) × (Layout.count (now file) Layout.entries ≤ length (now words)) × (Layout.count (now file) Layout.shapes ≤ length (now words)) × (now words ≡ replicate (length (now words)) 0) ⌝ }
     ensures is { λ r. ⌜ r ≡ Depth.levels (now (file .entry)) ⌝ }
     ensures cleared { λ _. ⌜ now (words .exit) ≡ now (words .entry) ⌝ }
 {
-    let entries = greatest(file, sections, Nesting::Entries, words);
-    let shapes = greatest(file, sections, Nesting::Shapes, words);
+    let entries = greatest(file, source, Nesting::Entries, words);
+    let shapes = greatest(file, source, Nesting::Shapes, words);
     entries + shapes + 1
 }

@@ -11,33 +11,32 @@ use definition::answers::WorkWords;
 use definition::layout::LINE_WORDS;
 use definition::layout::TREE_WORDS;
 use definition::layout::TYPES;
-use records::words::Sections;
 use records::words::count;
 use records::words::find_sections;
 
 // The depths of entries and then those of shapes stand in one table, and a file has at most 8,192 entries and 1,024 shapes.
-fn levels_of(file: &[u32], sections: Sections) -> u32
-    requires { ⌜ StartsOf (now file) (sections .starts) × Accepted (now file) ⌝ }
+fn levels_of(file: &[u32], source: &[usize]) -> u32
+    requires { ⌜ StartsOf (now file) (now source) × Accepted (now file) ⌝ }
     ensures { λ r. ⌜ r ≡ Depth.levels (now (file .entry)) ⌝ }
 {
     let mut words = [0u32; 8192];
-    levels(file, sections, &mut words)
+    levels(file, source, &mut words)
 }
 
 // A line of the most words for each type.
-pub fn lines_of(file: &[u32], sections: Sections) -> usize
-    requires { ⌜ StartsOf (now file) (sections .starts) × Accepted (now file) ⌝ }
+pub fn lines_of(file: &[u32], source: &[usize]) -> usize
+    requires { ⌜ StartsOf (now file) (now source) × Accepted (now file) ⌝ }
     ensures { λ r. ⌜ r ≡ lineWords (now (file .entry)) ⌝ }
 {
-    (count(file, sections, TYPES) as usize) * LINE_WORDS
+    (count(file, source, TYPES) as usize) * LINE_WORDS
 }
 
 // Two trees of the most nodes for each level.
-pub fn room_of(file: &[u32], sections: Sections) -> usize
-    requires { ⌜ StartsOf (now file) (sections .starts) × Accepted (now file) ⌝ }
+pub fn room_of(file: &[u32], source: &[usize]) -> usize
+    requires { ⌜ StartsOf (now file) (now source) × Accepted (now file) ⌝ }
     ensures { λ r. ⌜ r ≡ roomWords (now (file .entry)) ⌝ }
 {
-    (levels_of(file, sections) as usize) * (2 * TREE_WORDS)
+    (levels_of(file, source) as usize) * (2 * TREE_WORDS)
 }
 
 // The words that `lines` must have: the sheet writer needs no more of them than its answer slice has, the sheet check none.
@@ -47,8 +46,8 @@ pub fn line_words(file: &[u32]) -> WorkWords
     let answer = accept(file);
     match answer {
         Acceptance::Accepted => {
-            let sections = find_sections(file);
-            WorkWords::Words(lines_of(file, sections))
+            let source = find_sections(file);
+            WorkWords::Words(lines_of(file, &source))
         }
         Acceptance::Refused(n) => WorkWords::Refused(n),
     }
@@ -61,8 +60,8 @@ pub fn room_words(file: &[u32]) -> WorkWords
     let answer = accept(file);
     match answer {
         Acceptance::Accepted => {
-            let sections = find_sections(file);
-            WorkWords::Words(room_of(file, sections))
+            let source = find_sections(file);
+            WorkWords::Words(room_of(file, &source))
         }
         Acceptance::Refused(n) => WorkWords::Refused(n),
     }

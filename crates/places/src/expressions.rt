@@ -21,7 +21,6 @@ use definition::records::Expression;
 use definition::records::Shape;
 use records::view::constant_at;
 use records::view::expression_at;
-use records::words::Sections;
 use records::words::word;
 use scalar::node;
 use scalar::node::Leaf;
@@ -34,13 +33,13 @@ fn later(x: u32) -> Leaf
 }
 
 // The enumerated value of an entry.
-fn enumerated_entry(file: &[u32], sections: Sections, shape: Shape, e: u32) -> Leaf
-    requires { ⌜ StartsOf (now file) (sections .starts) × Accepted (now file) × ShapeIn (now file) shape ⌝ }
+fn enumerated_entry(file: &[u32], source: &[usize], shape: Shape, e: u32) -> Leaf
+    requires { ⌜ StartsOf (now file) (now source) × Accepted (now file) × ShapeIn (now file) shape ⌝ }
     ensures { λ r. ⌜ asTree (resultOf r) ≡ enumeratedValue (now (file .entry)) shape (Layout.word (now (file .entry)) entries e 2) (Layout.word (now (file .entry)) entries e 3) ⌝ }
 {
-    let value = word(file, sections, ENTRIES, e, 2);
-    let qualifier = word(file, sections, ENTRIES, e, 3);
-    enumerated_value(file, sections, shape, value, qualifier)
+    let value = word(file, source, ENTRIES, e, 2);
+    let qualifier = word(file, source, ENTRIES, e, 3);
+    enumerated_value(file, source, shape, value, qualifier)
 }
 
 // NULL is a reference's, and stays an expression elsewhere.
@@ -54,35 +53,35 @@ fn null_value(shape: Shape, x: u32) -> Leaf
 }
 
 // A conversion is gone through only directly over a constant or an enumerated value.
-fn conversion(file: &[u32], sections: Sections, shape: Shape, x: u32, inner: u32) -> Leaf
-    requires { ⌜ StartsOf (now file) (sections .starts) × Accepted (now file) × ShapeIn (now file) shape × (inner < Layout.count (now file) expressions) ⌝ }
+fn conversion(file: &[u32], source: &[usize], shape: Shape, x: u32, inner: u32) -> Leaf
+    requires { ⌜ StartsOf (now file) (now source) × Accepted (now file) × ShapeIn (now file) shape × (inner < Layout.count (now file) expressions) ⌝ }
     ensures { λ r. ⌜ asTree (resultOf r) ≡ expressionValue (now (file .entry)) shape (Syntax.Expr.conversion x (exprAt (now (file .entry)) inner)) ⌝ }
 {
-    let e = expression_at(file, sections, inner);
+    let e = expression_at(file, source, inner);
     match e {
         Expression::Constant { number } => {
-            let c = constant_at(file, sections, number);
-            constant_value(file, sections, shape, c)
+            let c = constant_at(file, source, number);
+            constant_value(file, source, shape, c)
         }
-        Expression::Enumerated { entry } => enumerated_entry(file, sections, shape, entry),
+        Expression::Enumerated { entry } => enumerated_entry(file, source, shape, entry),
         _ => later(x),
     }
 }
 
 // The constant that an expression is, or itself. Parentheses are gone through always.
-pub fn expression(file: &[u32], sections: Sections, shape: Shape, x: u32) -> Leaf
-    requires { ⌜ StartsOf (now file) (sections .starts) × Accepted (now file) × ShapeIn (now file) shape × (x < Layout.count (now file) expressions) ⌝ }
+pub fn expression(file: &[u32], source: &[usize], shape: Shape, x: u32) -> Leaf
+    requires { ⌜ StartsOf (now file) (now source) × Accepted (now file) × ShapeIn (now file) shape × (x < Layout.count (now file) expressions) ⌝ }
     ensures { λ r. ⌜ asTree (resultOf r) ≡ expressionValue (now (file .entry)) shape (exprAt (now (file .entry)) x) ⌝ }
 {
-    let e = expression_at(file, sections, x);
+    let e = expression_at(file, source, x);
     match e {
         Expression::Constant { number } => {
-            let c = constant_at(file, sections, number);
-            constant_value(file, sections, shape, c)
+            let c = constant_at(file, source, number);
+            constant_value(file, source, shape, c)
         }
-        Expression::Enumerated { entry } => enumerated_entry(file, sections, shape, entry),
-        Expression::Parentheses { inner } => expression(file, sections, shape, inner),
-        Expression::Conversion { inner } => conversion(file, sections, shape, x, inner),
+        Expression::Enumerated { entry } => enumerated_entry(file, source, shape, entry),
+        Expression::Parentheses { inner } => expression(file, source, shape, inner),
+        Expression::Conversion { inner } => conversion(file, source, shape, x, inner),
         Expression::Null => null_value(shape, x),
         _ => later(x),
     }

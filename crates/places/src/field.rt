@@ -3,12 +3,12 @@ ghost use mathlib.Core.Path.{_≡_};
 ghost use Prim.Native.Nat.{_<_};
 ghost use Rattle.definition.specs.Base.{onLink};
 ghost use Rattle.definition.specs.Layout as Layout;
-ghost use Rattle.definition.specs.Layout.{shapes, types};
-ghost use Rattle.definition.specs.Places.{declaredTypes, fieldDeclaration, structureFieldPlace, fieldPlace, stringPlace, variablePlace};
+ghost use Rattle.definition.specs.Layout.{shapes};
+ghost use Rattle.definition.specs.Places.{fieldDeclaration, structureFieldPlace, fieldPlace, stringPlace, variablePlace};
 ghost use Rattle.laws.specs.Accepted.{Accepted};
 ghost use Rattle.laws.specs.Links.{Link};
 ghost use Rattle.laws.specs.Used.{IsType};
-ghost use Rattle.records.specs.Starts.{StartsOf};
+ghost use Rattle.records.specs.Starts.{StartsOf, DeclaredIn};
 ghost use Rattle.shapes.specs.Classes.{Classes};
 ghost use Rattle.places.specs.Found.{placeIn, linkedPlace, structureField, blockField};
 ghost use Rattle.places.specs.Inside.{PlaceIn, FieldsIn};
@@ -27,7 +27,6 @@ use definition::layout::VARIABLES;
 use definition::records::Place;
 use definition::records::Shape;
 use records::view::shape_at;
-use records::words::Sections;
 use records::words::word;
 
 // A field's or a variable's place, or none.
@@ -37,128 +36,125 @@ pub enum Found {
 }
 
 // The place of the type that a link leads to.
-fn linked_place(file: &[u32], sections: Sections, id: u32) -> Found
-    requires { ⌜ StartsOf (now file) (sections .starts) ⌝ }
+fn linked_place(file: &[u32], source: &[usize], id: u32) -> Found
+    requires { ⌜ StartsOf (now file) (now source) ⌝ }
     ensures { λ r. ⌜ placeIn r ≡ linkedPlace (now (file .entry)) id ⌝ }
 {
     if id == 0 {
         return Found::None;
     }
-    Found::Place(place_of(file, sections, id - 1))
+    Found::Place(place_of(file, source, id - 1))
 }
 
-// The initializer that declares a field of a place, as a link. Steps is what `declared_types` gives.
-fn place_declaration(file: &[u32], sections: Sections, place: Place, name: u32, steps: u32) -> u32
-    requires { ⌜ StartsOf (now file) (sections .starts) × Accepted (now file) × PlaceIn (now file) place × (steps ≡ declaredTypes (now file) (Layout.count (now file) types)) ⌝ }
+// The initializer that declares a field of a place, as a link.
+fn place_declaration(file: &[u32], source: &[usize], place: Place, name: u32) -> u32
+    requires { ⌜ StartsOf (now file) (now source) × Accepted (now file) × PlaceIn (now file) place × DeclaredIn (now file) (now source) ⌝ }
     ensures { λ r. ⌜ r ≡ onLink (place .id) 0 (fieldDeclaration (now (file .entry)) name) ⌝ }
 {
     let id = place.id;
     if id == 0 {
         return 0;
     }
-    field_declaration(file, sections, name, id - 1, steps)
+    field_declaration(file, source, name, id - 1)
 }
 
 // A field, of the shape s, of a structure.
 fn structure_field_place(
     file: &[u32],
-    sections: Sections,
+    source: &[usize],
     classes: &[u32],
     place: Place,
     name: u32,
     s: u32,
-    steps: u32,
 ) -> Place
-    requires { ⌜ StartsOf (now file) (sections .starts) × Accepted (now file) × Classes (now file) (now classes) × PlaceIn (now file) place × (s < Layout.count (now file) shapes) × (steps ≡ declaredTypes (now file) (Layout.count (now file) types)) ⌝ }
+    requires { ⌜ StartsOf (now file) (now source) × Accepted (now file) × Classes (now file) (now classes) × PlaceIn (now file) place × (s < Layout.count (now file) shapes) × DeclaredIn (now file) (now source) ⌝ }
     ensures { λ r. ⌜ r ≡ structureFieldPlace (now (file .entry)) place name s ⌝ }
 {
-    let i = place_declaration(file, sections, place, name, steps);
+    let i = place_declaration(file, source, place, name);
     if i == 0 {
-        return bare(shape_at(file, sections, s));
+        return bare(shape_at(file, source, s));
     }
-    let id = declared_type(file, sections, i - 1);
-    let element = declared_element(file, sections, i - 1);
-    typed_place(file, sections, classes, s, id, element)
+    let id = declared_type(file, source, i - 1);
+    let element = declared_element(file, source, i - 1);
+    typed_place(file, source, classes, s, id, element)
 }
 
 // A field of a structure whose fields are a run.
 fn structure_field(
     file: &[u32],
-    sections: Sections,
+    source: &[usize],
     classes: &[u32],
     place: Place,
     first: u32,
     many: u32,
     name: u32,
-    steps: u32,
 ) -> Found
-    requires { ⌜ StartsOf (now file) (sections .starts) × Accepted (now file) × Classes (now file) (now classes) × PlaceIn (now file) place × FieldsIn (now file) first many × (steps ≡ declaredTypes (now file) (Layout.count (now file) types)) ⌝ }
+    requires { ⌜ StartsOf (now file) (now source) × Accepted (now file) × Classes (now file) (now classes) × PlaceIn (now file) place × FieldsIn (now file) first many × DeclaredIn (now file) (now source) ⌝ }
     ensures { λ r. ⌜ placeIn r ≡ structureField (now (file .entry)) place name first many ⌝ }
 {
-    let field = first_named(file, sections, SHAPE_FIELDS, name, first, many);
+    let field = first_named(file, source, SHAPE_FIELDS, name, first, many);
     if field == 0 {
         return Found::None;
     }
-    let s = word(file, sections, SHAPE_FIELDS, field - 1, 1);
-    Found::Place(structure_field_place(file, sections, classes, place, name, s, steps))
+    let s = word(file, source, SHAPE_FIELDS, field - 1, 1);
+    Found::Place(structure_field_place(file, source, classes, place, name, s))
 }
 
 // A field of a function block.
-fn block_field(file: &[u32], sections: Sections, id: u32, name: u32) -> Found
-    requires { ⌜ StartsOf (now file) (sections .starts) × Accepted (now file) × Link (IsType (now file)) id ⌝ }
+fn block_field(file: &[u32], source: &[usize], id: u32, name: u32) -> Found
+    requires { ⌜ StartsOf (now file) (now source) × Accepted (now file) × Link (IsType (now file)) id ⌝ }
     ensures { λ r. ⌜ placeIn r ≡ blockField (now (file .entry)) id name ⌝ }
 {
     if id == 0 {
         return Found::None;
     }
-    let field = block_field_type(file, sections, id - 1, name);
-    linked_place(file, sections, field)
+    let field = block_field_type(file, source, id - 1, name);
+    linked_place(file, source, field)
 }
 
-// A field of a structure or a function block, by its name. Steps is what `declared_types` gives.
+// A field of a structure or a function block, by its name.
 pub fn field_place(
     file: &[u32],
-    sections: Sections,
+    source: &[usize],
     classes: &[u32],
     place: Place,
     name: u32,
-    steps: u32,
 ) -> Found
-    requires { ⌜ StartsOf (now file) (sections .starts) × Accepted (now file) × Classes (now file) (now classes) × PlaceIn (now file) place × (steps ≡ declaredTypes (now file) (Layout.count (now file) types)) ⌝ }
+    requires { ⌜ StartsOf (now file) (now source) × Accepted (now file) × Classes (now file) (now classes) × PlaceIn (now file) place × DeclaredIn (now file) (now source) ⌝ }
     ensures { λ r. ⌜ placeIn r ≡ fieldPlace (now (file .entry)) place name ⌝ }
 {
     let shape = place.shape;
     match shape {
         Shape::Structure { first, count } => {
-            structure_field(file, sections, classes, place, first, count, name, steps)
+            structure_field(file, source, classes, place, first, count, name)
         }
-        Shape::FunctionBlock { name: _ } => block_field(file, sections, place.id, name),
+        Shape::FunctionBlock { name: _ } => block_field(file, source, place.id, name),
         _ => Found::None,
     }
 }
 
 // A string variable has the length and the width that its initializer states, none where the length is no integer.
-fn string_place(file: &[u32], sections: Sections, i: u32) -> Found
-    requires { ⌜ StartsOf (now file) (sections .starts) ⌝ }
+fn string_place(file: &[u32], source: &[usize], i: u32) -> Found
+    requires { ⌜ StartsOf (now file) (now source) ⌝ }
     ensures { λ r. ⌜ placeIn r ≡ stringPlace (now (file .entry)) i ⌝ }
 {
-    let length = word(file, sections, INITIALIZERS, i, 6);
+    let length = word(file, source, INITIALIZERS, i, 6);
     if length == INLINE {
         return Found::None;
     }
-    let width = word(file, sections, INITIALIZERS, i, 7);
+    let width = word(file, source, INITIALIZERS, i, 7);
     Found::Place(bare(Shape::String { length, width }))
 }
 
 // The place of the variable v with the initializer i: a string's comes from the initializer, any other's from its type.
-pub fn variable_place(file: &[u32], sections: Sections, v: u32, i: u32) -> Found
-    requires { ⌜ StartsOf (now file) (sections .starts) ⌝ }
+pub fn variable_place(file: &[u32], source: &[usize], v: u32, i: u32) -> Found
+    requires { ⌜ StartsOf (now file) (now source) ⌝ }
     ensures { λ r. ⌜ placeIn r ≡ variablePlace (now (file .entry)) v i ⌝ }
 {
-    let kind = word(file, sections, INITIALIZERS, i, 0);
+    let kind = word(file, source, INITIALIZERS, i, 0);
     if kind == 4 {
-        return string_place(file, sections, i);
+        return string_place(file, source, i);
     }
-    let id = word(file, sections, VARIABLES, v, 2);
-    linked_place(file, sections, id)
+    let id = word(file, source, VARIABLES, v, 2);
+    linked_place(file, source, id)
 }

@@ -21,7 +21,6 @@ use definition::layout::TYPES;
 use definition::records::Place;
 use definition::records::Shape;
 use records::view::shape_at;
-use records::words::Sections;
 use records::words::count;
 use records::words::word;
 use shapes::classes::same_shape;
@@ -38,27 +37,27 @@ pub fn bare(shape: Shape) -> Place
 }
 
 // A value of the type t.
-pub fn place_of(file: &[u32], sections: Sections, t: u32) -> Place
-    requires { ⌜ StartsOf (now file) (sections .starts) × (t < 2 ^ 32 - 1) ⌝ }
+pub fn place_of(file: &[u32], source: &[usize], t: u32) -> Place
+    requires { ⌜ StartsOf (now file) (now source) × (t < 2 ^ 32 - 1) ⌝ }
     ensures { λ r. ⌜ r ≡ placeOf (now (file .entry)) t ⌝ }
 {
-    let shape = shape_at(file, sections, word(file, sections, TYPES, t, 0));
+    let shape = shape_at(file, source, word(file, source, TYPES, t, 0));
     Place {
         shape,
         id: t + 1,
-        element: word(file, sections, TYPES, t, 2),
+        element: word(file, source, TYPES, t, 2),
     }
 }
 
 // The type is kept only where it has that very shape.
-fn own_type(file: &[u32], sections: Sections, classes: &[u32], s: u32, id: u32) -> u32
-    requires { ⌜ StartsOf (now file) (sections .starts) × Accepted (now file) × Classes (now file) (now classes) × (s < Layout.count (now file) shapes) × Link (IsType (now file)) id ⌝ }
+fn own_type(file: &[u32], source: &[usize], classes: &[u32], s: u32, id: u32) -> u32
+    requires { ⌜ StartsOf (now file) (now source) × Accepted (now file) × Classes (now file) (now classes) × (s < Layout.count (now file) shapes) × Link (IsType (now file)) id ⌝ }
     ensures { λ r. ⌜ r ≡ onLink id 0 (λ t. pick (sameShape (now (file .entry)) (typeShape (now (file .entry)) t) s) id 0) ⌝ }
 {
     if id == 0 {
         return 0;
     }
-    let own = word(file, sections, TYPES, id - 1, 0);
+    let own = word(file, source, TYPES, id - 1, 0);
     if same_shape(file, classes, own, s) {
         return id;
     }
@@ -66,56 +65,50 @@ fn own_type(file: &[u32], sections: Sections, classes: &[u32], s: u32, id: u32) 
 }
 
 // The element type of the type that a link leads to.
-fn element_of(file: &[u32], sections: Sections, id: u32) -> u32
-    requires { ⌜ StartsOf (now file) (sections .starts) ⌝ }
+fn element_of(file: &[u32], source: &[usize], id: u32) -> u32
+    requires { ⌜ StartsOf (now file) (now source) ⌝ }
     ensures { λ r. ⌜ r ≡ onLink id 0 (elementType (now (file .entry))) ⌝ }
 {
-    linked_word(file, sections, TYPES, id, 2)
+    linked_word(file, source, TYPES, id, 2)
 }
 
 pub fn typed_place(
     file: &[u32],
-    sections: Sections,
+    source: &[usize],
     classes: &[u32],
     s: u32,
     id: u32,
     element: u32,
 ) -> Place
-    requires { ⌜ StartsOf (now file) (sections .starts) × Accepted (now file) × Classes (now file) (now classes) × (s < Layout.count (now file) shapes) × Link (IsType (now file)) id ⌝ }
+    requires { ⌜ StartsOf (now file) (now source) × Accepted (now file) × Classes (now file) (now classes) × (s < Layout.count (now file) shapes) × Link (IsType (now file)) id ⌝ }
     ensures { λ r. ⌜ r ≡ typedPlace (now (file .entry)) s id element ⌝ }
 {
-    let own = own_type(file, sections, classes, s, id);
-    let other = element_of(file, sections, own);
+    let own = own_type(file, source, classes, s, id);
+    let other = element_of(file, source, own);
     Place {
-        shape: shape_at(file, sections, s),
+        shape: shape_at(file, source, s),
         id: own,
         element: or_else(element, other),
     }
 }
 
 // An element, of the shape s, of an array.
-pub fn element_place(
-    file: &[u32],
-    sections: Sections,
-    classes: &[u32],
-    place: Place,
-    s: u32,
-) -> Place
-    requires { ⌜ StartsOf (now file) (sections .starts) × Accepted (now file) × Classes (now file) (now classes) × PlaceIn (now file) place × (s < Layout.count (now file) shapes) ⌝ }
+pub fn element_place(file: &[u32], source: &[usize], classes: &[u32], place: Place, s: u32) -> Place
+    requires { ⌜ StartsOf (now file) (now source) × Accepted (now file) × Classes (now file) (now classes) × PlaceIn (now file) place × (s < Layout.count (now file) shapes) ⌝ }
     ensures { λ r. ⌜ r ≡ elementPlace (now (file .entry)) place s ⌝ }
 {
-    let other = element_of(file, sections, place.id);
+    let other = element_of(file, source, place.id);
     let id = or_else(place.element, other);
-    typed_place(file, sections, classes, s, id, 0)
+    typed_place(file, source, classes, s, id, 0)
 }
 
 // What an array of arrays is filled with: an element of its innermost arrays.
-pub fn leaf_place(file: &[u32], sections: Sections, classes: &[u32], place: Place) -> Place
-    requires { ⌜ StartsOf (now file) (sections .starts) × Accepted (now file) × Classes (now file) (now classes) × PlaceIn (now file) place ⌝ }
+pub fn leaf_place(file: &[u32], source: &[usize], classes: &[u32], place: Place) -> Place
+    requires { ⌜ StartsOf (now file) (now source) × Accepted (now file) × Classes (now file) (now classes) × PlaceIn (now file) place ⌝ }
     ensures { λ r. ⌜ r ≡ leafPlace (now (file .entry)) place ⌝ }
 {
     let mut leaf = place;
-    let mut left = count(file, sections, SHAPES);
+    let mut left = count(file, source, SHAPES);
     while left > 0 {
         let shape = leaf.shape;
         let Shape::Array {
@@ -126,7 +119,7 @@ pub fn leaf_place(file: &[u32], sections: Sections, classes: &[u32], place: Plac
         else {
             return leaf;
         };
-        leaf = element_place(file, sections, classes, leaf, element);
+        leaf = element_place(file, source, classes, leaf, element);
         left -= 1;
     }
     leaf

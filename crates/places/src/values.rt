@@ -19,7 +19,6 @@ use definition::layout::SETTINGS;
 use definition::records::Constant;
 use definition::records::Shape;
 use records::view::constant_at;
-use records::words::Sections;
 use records::words::run_word;
 use records::words::word;
 use scalar::convert::convert;
@@ -35,8 +34,8 @@ struct Range {
 }
 
 // A subrange's bounds are constants of the file; another shape has none, and any constant does.
-fn range_of(file: &[u32], sections: Sections, shape: Shape, any: Constant) -> Range
-    requires { ⌜ StartsOf (now file) (sections .starts) ⌝ }
+fn range_of(file: &[u32], source: &[usize], shape: Shape, any: Constant) -> Range
+    requires { ⌜ StartsOf (now file) (now source) ⌝ }
     ensures { λ r. ⌜ Bounds (now (file .entry)) shape (r .least) (r .greatest) ⌝ }
 {
     match shape {
@@ -45,8 +44,8 @@ fn range_of(file: &[u32], sections: Sections, shape: Shape, any: Constant) -> Ra
             least,
             greatest,
         } => Range {
-            least: constant_at(file, sections, least),
-            greatest: constant_at(file, sections, greatest),
+            least: constant_at(file, source, least),
+            greatest: constant_at(file, source, greatest),
         },
         _ => Range {
             least: any,
@@ -56,29 +55,29 @@ fn range_of(file: &[u32], sections: Sections, shape: Shape, any: Constant) -> Ra
 }
 
 // A constant as a literal of the kind that the place stores.
-pub fn converted(file: &[u32], sections: Sections, shape: Shape, c: Constant) -> Leaf
-    requires { ⌜ StartsOf (now file) (sections .starts) ⌝ }
+pub fn converted(file: &[u32], source: &[usize], shape: Shape, c: Constant) -> Leaf
+    requires { ⌜ StartsOf (now file) (now source) ⌝ }
     ensures { λ r. ⌜ resultOf r ≡ scalar.converted (now (file .entry)) shape c ⌝ }
 {
-    let setting = word(file, sections, SETTINGS, 0, 0);
-    let range = range_of(file, sections, shape, c);
+    let setting = word(file, source, SETTINGS, 0, 0);
+    let range = range_of(file, source, shape, c);
     convert(shape, c, range.least, range.greatest, setting)
 }
 
-pub fn constant_value(file: &[u32], sections: Sections, shape: Shape, c: Constant) -> Leaf
-    requires { ⌜ StartsOf (now file) (sections .starts) ⌝ }
+pub fn constant_value(file: &[u32], source: &[usize], shape: Shape, c: Constant) -> Leaf
+    requires { ⌜ StartsOf (now file) (now source) ⌝ }
     ensures { λ r. ⌜ asTree (resultOf r) ≡ constantValue (now (file .entry)) shape c ⌝ }
 {
-    converted(file, sections, shape, c)
+    converted(file, source, shape, c)
 }
 
 // Where a member stands: a record of that section is one word.
-fn member_at(file: &[u32], sections: Sections, number: u32) -> usize
-    requires { ⌜ StartsOf (now file) (sections .starts) ⌝ }
+fn member_at(file: &[u32], source: &[usize], number: u32) -> usize
+    requires { ⌜ StartsOf (now file) (now source) ⌝ }
     ensures is { λ r. ⌜ r ≡ countAt (now (file .entry)) members + 1 + number ⌝ }
     ensures near { λ r. ⌜ r ≤ 2 ^ 41 ⌝ }
 {
-    sections.starts[MEMBERS] + 1 + (number as usize)
+    source[MEMBERS] + 1 + (number as usize)
 }
 
 fn part(words: &[u32], from: usize, to: usize) -> &[u32]
@@ -89,23 +88,23 @@ fn part(words: &[u32], from: usize, to: usize) -> &[u32]
 }
 
 // The names of a run of members.
-fn member_names(file: &[u32], sections: Sections, first: u32, many: u32) -> &[u32]
-    requires { ⌜ StartsOf (now file) (sections .starts) × Accepted (now file) × (first + many ≤ Layout.count (now file) members) ⌝ }
+fn member_names<'a>(file: &'a [u32], source: &[usize], first: u32, many: u32) -> &'a [u32]
+    requires { ⌜ StartsOf (now file) (now source) × Accepted (now file) × (first + many ≤ Layout.count (now file) members) ⌝ }
     ensures { λ r. ⌜ Members.Run (now (file .entry)) first many (now r) ⌝ }
 {
-    let from = member_at(file, sections, first);
+    let from = member_at(file, source, first);
     part(file, from, from + (many as usize))
 }
 
 // One of the members by its name, with its qualifier kept.
 pub fn enumerated_value(
     file: &[u32],
-    sections: Sections,
+    source: &[usize],
     shape: Shape,
     value: u32,
     qualifier: u32,
 ) -> Leaf
-    requires { ⌜ StartsOf (now file) (sections .starts) × Accepted (now file) × ShapeIn (now file) shape ⌝ }
+    requires { ⌜ StartsOf (now file) (now source) × Accepted (now file) × ShapeIn (now file) shape ⌝ }
     ensures { λ r. ⌜ asTree (resultOf r) ≡ enumeratedValue (now (file .entry)) shape value qualifier ⌝ }
 {
     match shape {
@@ -114,14 +113,14 @@ pub fn enumerated_value(
             count,
             default: _,
             underlying: _,
-        } => from_enumerated_value(member_names(file, sections, first, count), value, qualifier),
+        } => from_enumerated_value(member_names(file, source, first, count), value, qualifier),
         _ => Leaf::None,
     }
 }
 
 // The name at an enumeration's default place; another shape has none, and any name does.
-fn default_name(file: &[u32], sections: Sections, shape: Shape) -> u32
-    requires { ⌜ StartsOf (now file) (sections .starts) ⌝ }
+fn default_name(file: &[u32], source: &[usize], shape: Shape) -> u32
+    requires { ⌜ StartsOf (now file) (now source) ⌝ }
     ensures { λ r. ⌜ DefaultName (now (file .entry)) shape r ⌝ }
 {
     match shape {
@@ -130,18 +129,18 @@ fn default_name(file: &[u32], sections: Sections, shape: Shape) -> u32
             count: _,
             default,
             underlying: _,
-        } => run_word(file, sections, MEMBERS, first, default, 0),
+        } => run_word(file, source, MEMBERS, first, default, 0),
         _ => 0,
     }
 }
 
 // The value that a shape without parts starts with when nothing declares one.
-pub fn built_in(file: &[u32], sections: Sections, shape: Shape) -> Leaf
-    requires { ⌜ StartsOf (now file) (sections .starts) ⌝ }
+pub fn built_in(file: &[u32], source: &[usize], shape: Shape) -> Leaf
+    requires { ⌜ StartsOf (now file) (now source) ⌝ }
     ensures { λ r. ⌜ asTree (resultOf r) ≡ builtIn (now (file .entry)) shape ⌝ }
 {
-    let range = range_of(file, sections, shape, node::null());
-    let member = default_name(file, sections, shape);
-    let setting = word(file, sections, SETTINGS, 0, 0);
+    let range = range_of(file, source, shape, node::null());
+    let member = default_name(file, source, shape);
+    let setting = word(file, source, SETTINGS, 0, 0);
     implicit_default(shape, range.least, member, setting)
 }

@@ -10,30 +10,29 @@ ghost use Rattle.records.specs.Starts.{StartsOf};
 use definition::layout::SECTIONS;
 use definition::layout::SETTINGS;
 use definition::layout::most_records;
-use records::words::Sections;
 use records::words::count;
 
 // Refusal 1: the words end before or after the last section does.
-pub fn ends_right(file: &[u32], sections: Sections) -> bool
-    requires { ⌜ StartsOf (now file) (sections .starts) ⌝ }
+pub fn ends_right(file: &[u32], source: &[usize]) -> bool
+    requires { ⌜ StartsOf (now file) (now source) ⌝ }
     ensures { λ r. ⌜ r ≡ endsRight (now (file .entry)) ⌝ }
 {
-    sections.starts[14] == file.len()
+    source[14] == file.len()
 }
 
-fn count_small(file: &[u32], sections: Sections, section: usize) -> bool
-    requires { ⌜ StartsOf (now file) (sections .starts) × (section < 14) ⌝ }
+fn count_small(file: &[u32], source: &[usize], section: usize) -> bool
+    requires { ⌜ StartsOf (now file) (now source) × (section < 14) ⌝ }
     ensures { λ r. ⌜ r ≡ leb (Layout.count (now (file .entry)) section) (mostRecords section) ⌝ }
 {
-    (count(file, sections, section) as usize) <= most_records(section)
+    (count(file, source, section) as usize) <= most_records(section)
 }
 
-fn counts_small(file: &[u32], sections: Sections) -> bool
-    requires { ⌜ StartsOf (now file) (sections .starts) ⌝ }
+fn counts_small(file: &[u32], source: &[usize]) -> bool
+    requires { ⌜ StartsOf (now file) (now source) ⌝ }
     ensures { λ r. ⌜ r ≡ every (λ s. leb (Layout.count (now (file .entry)) s) (mostRecords s)) 14 ⌝ }
 {
     for s in 0..SECTIONS {
-        if !count_small(file, sections, s) {
+        if !count_small(file, source, s) {
             return false;
         }
     }
@@ -41,9 +40,9 @@ fn counts_small(file: &[u32], sections: Sections) -> bool
 }
 
 // Refusal 2: a section has more records than stated, or Settings not one.
-pub fn counts_right(file: &[u32], sections: Sections) -> bool
-    requires { ⌜ StartsOf (now file) (sections .starts) ⌝ }
+pub fn counts_right(file: &[u32], source: &[usize]) -> bool
+    requires { ⌜ StartsOf (now file) (now source) ⌝ }
     ensures { λ r. ⌜ r ≡ countsRight (now (file .entry)) ⌝ }
 {
-    counts_small(file, sections) & (count(file, sections, SETTINGS) == 1)
+    counts_small(file, source) & (count(file, source, SETTINGS) == 1)
 }

@@ -35,7 +35,7 @@ pub words-of : (most n s : ℕ) → n ≤ most → n * recordWords s ≤ most * 
 words-of most n s l = mul-le-mul l (words-most s)
 
 module _ (f : List ℕ) where
-  pub first-start : StartsTo f (replicate 15 0) 0
+  pub first-start : StartsTo f (replicate 16 0) 0
   unfolding countAt
   first-start =
       record {

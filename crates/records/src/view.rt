@@ -2,7 +2,6 @@
 ghost use mathlib.Core.Path.{_≡_};
 ghost use Rattle.definition.specs.Records.{shapeOf, shapeAt, declarationOf, declarationAt, initializerOf, initializerAt, entryOf, entryAt, expressionOf, expressionAt, constantAt};
 ghost use Rattle.records.specs.Starts.{StartsOf};
-use crate::words::Sections;
 use crate::words::word;
 use definition::layout::CONSTANTS;
 use definition::layout::ENTRIES;
@@ -58,15 +57,15 @@ fn shape_of(kind: u32, a: u32, b: u32, c: u32, d: u32) -> Shape
     }
 }
 
-pub fn shape_at(file: &[u32], sections: Sections, n: u32) -> Shape
-    requires { ⌜ StartsOf (now file) (sections .starts) ⌝ }
+pub fn shape_at(file: &[u32], source: &[usize], n: u32) -> Shape
+    requires { ⌜ StartsOf (now file) (now source) ⌝ }
     ensures { λ r. ⌜ r ≡ shapeAt (now (file .entry)) n ⌝ }
 {
-    let kind = word(file, sections, SHAPES, n, 0);
-    let a = word(file, sections, SHAPES, n, 1);
-    let b = word(file, sections, SHAPES, n, 2);
-    let c = word(file, sections, SHAPES, n, 3);
-    let d = word(file, sections, SHAPES, n, 4);
+    let kind = word(file, source, SHAPES, n, 0);
+    let a = word(file, source, SHAPES, n, 1);
+    let b = word(file, source, SHAPES, n, 2);
+    let c = word(file, source, SHAPES, n, 3);
+    let d = word(file, source, SHAPES, n, 4);
     shape_of(kind, a, b, c, d)
 }
 
@@ -92,15 +91,15 @@ fn declaration_of(kind: u32, named: u32, start: u32, first: u32, many: u32) -> D
     }
 }
 
-pub fn declaration_at(file: &[u32], sections: Sections, t: u32) -> Declaration
-    requires { ⌜ StartsOf (now file) (sections .starts) ⌝ }
+pub fn declaration_at(file: &[u32], source: &[usize], t: u32) -> Declaration
+    requires { ⌜ StartsOf (now file) (now source) ⌝ }
     ensures { λ r. ⌜ r ≡ declarationAt (now (file .entry)) t ⌝ }
 {
-    let kind = word(file, sections, TYPES, t, 4);
-    let named = word(file, sections, TYPES, t, 5);
-    let start = word(file, sections, TYPES, t, 6);
-    let first = word(file, sections, TYPES, t, 7);
-    let many = word(file, sections, TYPES, t, 8);
+    let kind = word(file, source, TYPES, t, 4);
+    let named = word(file, source, TYPES, t, 5);
+    let start = word(file, source, TYPES, t, 6);
+    let first = word(file, source, TYPES, t, 7);
+    let many = word(file, source, TYPES, t, 8);
     declaration_of(kind, named, start, first, many)
 }
 
@@ -138,16 +137,16 @@ fn initializer_of(
     }
 }
 
-pub fn initializer_at(file: &[u32], sections: Sections, i: u32) -> Initializer
-    requires { ⌜ StartsOf (now file) (sections .starts) ⌝ }
+pub fn initializer_at(file: &[u32], source: &[usize], i: u32) -> Initializer
+    requires { ⌜ StartsOf (now file) (now source) ⌝ }
     ensures { λ r. ⌜ r ≡ initializerAt (now (file .entry)) i ⌝ }
 {
-    let kind = word(file, sections, INITIALIZERS, i, 0);
-    let value = word(file, sections, INITIALIZERS, i, 3);
-    let first = word(file, sections, INITIALIZERS, i, 4);
-    let many = word(file, sections, INITIALIZERS, i, 5);
-    let length = word(file, sections, INITIALIZERS, i, 6);
-    let width = word(file, sections, INITIALIZERS, i, 7);
+    let kind = word(file, source, INITIALIZERS, i, 0);
+    let value = word(file, source, INITIALIZERS, i, 3);
+    let first = word(file, source, INITIALIZERS, i, 4);
+    let many = word(file, source, INITIALIZERS, i, 5);
+    let length = word(file, source, INITIALIZERS, i, 6);
+    let width = word(file, source, INITIALIZERS, i, 7);
     initializer_of(kind, value, first, many, length, width)
 }
 
@@ -169,13 +168,13 @@ fn entry_of(kind: u32, a: u32, b: u32) -> Entry
     }
 }
 
-pub fn entry_at(file: &[u32], sections: Sections, e: u32) -> Entry
-    requires { ⌜ StartsOf (now file) (sections .starts) ⌝ }
+pub fn entry_at(file: &[u32], source: &[usize], e: u32) -> Entry
+    requires { ⌜ StartsOf (now file) (now source) ⌝ }
     ensures { λ r. ⌜ r ≡ entryAt (now (file .entry)) e ⌝ }
 {
-    let kind = word(file, sections, ENTRIES, e, 0);
-    let a = word(file, sections, ENTRIES, e, 2);
-    let b = word(file, sections, ENTRIES, e, 3);
+    let kind = word(file, source, ENTRIES, e, 0);
+    let a = word(file, source, ENTRIES, e, 2);
+    let b = word(file, source, ENTRIES, e, 3);
     entry_of(kind, a, b)
 }
 
@@ -194,24 +193,24 @@ fn expression_of(kind: u32, a: u32) -> Expression
     }
 }
 
-pub fn expression_at(file: &[u32], sections: Sections, x: u32) -> Expression
-    requires { ⌜ StartsOf (now file) (sections .starts) ⌝ }
+pub fn expression_at(file: &[u32], source: &[usize], x: u32) -> Expression
+    requires { ⌜ StartsOf (now file) (now source) ⌝ }
     ensures { λ r. ⌜ r ≡ expressionAt (now (file .entry)) x ⌝ }
 {
-    let kind = word(file, sections, EXPRESSIONS, x, 0);
-    let a = word(file, sections, EXPRESSIONS, x, 1);
+    let kind = word(file, source, EXPRESSIONS, x, 0);
+    let a = word(file, source, EXPRESSIONS, x, 1);
     expression_of(kind, a)
 }
 
-pub fn constant_at(file: &[u32], sections: Sections, c: u32) -> Constant
-    requires { ⌜ StartsOf (now file) (sections .starts) ⌝ }
+pub fn constant_at(file: &[u32], source: &[usize], c: u32) -> Constant
+    requires { ⌜ StartsOf (now file) (now source) ⌝ }
     ensures { λ r. ⌜ r ≡ constantAt (now (file .entry)) c ⌝ }
 {
     Constant {
-        kind: word(file, sections, CONSTANTS, c, 0),
-        sign: word(file, sections, CONSTANTS, c, 1),
-        low: word(file, sections, CONSTANTS, c, 2),
-        high: word(file, sections, CONSTANTS, c, 3),
-        width: word(file, sections, CONSTANTS, c, 4),
+        kind: word(file, source, CONSTANTS, c, 0),
+        sign: word(file, source, CONSTANTS, c, 1),
+        low: word(file, source, CONSTANTS, c, 2),
+        high: word(file, source, CONSTANTS, c, 3),
+        width: word(file, source, CONSTANTS, c, 4),
     }
 }

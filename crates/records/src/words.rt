@@ -1,4 +1,4 @@
-// The words of a file, by section, record and place. Section starts are found once and handed on by value.
+// The words of a file, by section, record and place. Section starts are found once and lent as a slice.
 ghost use mathlib.Core.Path.{_≡_};
 ghost use Prim.Native.Nat.{_+_, _^_, _<_, _≤_};
 ghost use lib.ListN.{getD};
@@ -7,10 +7,8 @@ ghost use Rattle.definition.specs.Layout.{behind};
 ghost use Rattle.records.specs.Starts.{StartsOf};
 use definition::layout::record_words;
 
-// Where the count of each section stands, and behind them where the last section ends.
-pub struct Sections {
-    pub starts: [usize; 15],
-}
+// Behind the starts of a source stands how many types are declared.
+pub const DECLARED: usize = 15;
 
 // The word at a place, 0 past the end.
 pub fn word_at(file: &[u32], at: usize) -> u32
@@ -31,10 +29,11 @@ fn section_end(file: &[u32], section: usize, at: usize) -> usize
     at + 1 + (word_at(file, at) as usize) * record_words(section)
 }
 
-pub fn find_sections(file: &[u32]) -> Sections
-    ensures { λ r. ⌜ StartsOf (now (file .entry)) (r .starts) ⌝ }
+// Where the count of each section stands, behind them where the last section ends, and a 0 where the number of declared types goes.
+pub fn find_sections(file: &[u32]) -> [usize; 16]
+    ensures { λ r. ⌜ StartsOf (now (file .entry)) r ⌝ }
 {
-    let mut starts = [0usize; 15];
+    let mut starts = [0usize; 16];
     let mut s = 0;
     while s < 14 {
         let at = starts[s];
@@ -42,38 +41,38 @@ pub fn find_sections(file: &[u32]) -> Sections
         s += 1;
         starts[s] = end;
     }
-    Sections { starts }
+    starts
 }
 
 // How many records a section has.
-pub fn count(file: &[u32], sections: Sections, section: usize) -> u32
-    requires { ⌜ StartsOf (now file) (sections .starts) × (section < 14) ⌝ }
+pub fn count(file: &[u32], source: &[usize], section: usize) -> u32
+    requires { ⌜ StartsOf (now file) (now source) × (section < 14) ⌝ }
     ensures { λ r. ⌜ r ≡ Layout.count (now (file .entry)) section ⌝ }
 {
-    word_at(file, sections.starts[section])
+    word_at(file, source[section])
 }
 
 // Word `place` of record `first + j`: in 64 bits, so that a run need not be inside its section.
 pub fn run_word(
     file: &[u32],
-    sections: Sections,
+    source: &[usize],
     section: usize,
     first: u32,
     j: u32,
     place: usize,
 ) -> u32
-    requires { ⌜ StartsOf (now file) (sections .starts) × (section < 14) × (place < 16) ⌝ }
+    requires { ⌜ StartsOf (now file) (now source) × (section < 14) × (place < 16) ⌝ }
     ensures { λ r. ⌜ r ≡ Layout.word (now (file .entry)) section (first + j) place ⌝ }
 {
-    let at = sections.starts[section];
+    let at = source[section];
     let number = (first as usize) + (j as usize);
     word_at(file, at + 1 + number * record_words(section) + place)
 }
 
 // Word `place` of a record.
-pub fn word(file: &[u32], sections: Sections, section: usize, number: u32, place: usize) -> u32
-    requires { ⌜ StartsOf (now file) (sections .starts) × (section < 14) × (place < 16) ⌝ }
+pub fn word(file: &[u32], source: &[usize], section: usize, number: u32, place: usize) -> u32
+    requires { ⌜ StartsOf (now file) (now source) × (section < 14) × (place < 16) ⌝ }
     ensures { λ r. ⌜ r ≡ Layout.word (now (file .entry)) section number place ⌝ }
 {
-    run_word(file, sections, section, number, 0, place)
+    run_word(file, source, section, number, 0, place)
 }

@@ -14,110 +14,109 @@ use definition::layout::EXPRESSIONS;
 use definition::layout::INITIALIZERS;
 use definition::layout::INLINE;
 use definition::layout::TYPES;
-use records::words::Sections;
 use records::words::count;
 use records::words::word;
 
-pub fn number_in(file: &[u32], sections: Sections, section: usize, n: u32) -> bool
-    requires { ⌜ StartsOf (now file) (sections .starts) × (section < 14) ⌝ }
+pub fn number_in(file: &[u32], source: &[usize], section: usize, n: u32) -> bool
+    requires { ⌜ StartsOf (now file) (now source) × (section < 14) ⌝ }
     ensures { λ r. ⌜ r ≡ Accept.numberIn (now (file .entry)) section n ⌝ }
 {
-    n < count(file, sections, section)
+    n < count(file, source, section)
 }
 
-pub fn link_in(file: &[u32], sections: Sections, section: usize, n: u32) -> bool
-    requires { ⌜ StartsOf (now file) (sections .starts) × (section < 14) ⌝ }
+pub fn link_in(file: &[u32], source: &[usize], section: usize, n: u32) -> bool
+    requires { ⌜ StartsOf (now file) (now source) × (section < 14) ⌝ }
     ensures { λ r. ⌜ r ≡ Accept.linkIn (now (file .entry)) section n ⌝ }
 {
-    n <= count(file, sections, section)
+    n <= count(file, source, section)
 }
 
-pub fn run_in(file: &[u32], sections: Sections, section: usize, first: u32, many: u32) -> bool
-    requires { ⌜ StartsOf (now file) (sections .starts) × (section < 14) ⌝ }
+pub fn run_in(file: &[u32], source: &[usize], section: usize, first: u32, many: u32) -> bool
+    requires { ⌜ StartsOf (now file) (now source) × (section < 14) ⌝ }
     ensures is { λ r. ⌜ r ≡ Accept.runIn (now (file .entry)) section first many ⌝ }
     ensures fits { λ r. ⌜ (r ≡ true → first + many < 2 ^ 32) ⌝ }
 {
-    (first as u64) + (many as u64) <= (count(file, sections, section) as u64)
+    (first as u64) + (many as u64) <= (count(file, source, section) as u64)
 }
 
-pub fn constant_in(file: &[u32], sections: Sections, kind: u32, c: u32) -> bool
-    requires { ⌜ StartsOf (now file) (sections .starts) ⌝ }
+pub fn constant_in(file: &[u32], source: &[usize], kind: u32, c: u32) -> bool
+    requires { ⌜ StartsOf (now file) (now source) ⌝ }
     ensures { λ r. ⌜ r ≡ Accept.constantIn (now (file .entry)) kind c ⌝ }
 {
-    number_in(file, sections, CONSTANTS, c) & (word(file, sections, CONSTANTS, c, 0) == kind)
+    number_in(file, source, CONSTANTS, c) & (word(file, source, CONSTANTS, c, 0) == kind)
 }
 
-pub fn enumerated_entry(file: &[u32], sections: Sections, e: u32) -> bool
-    requires { ⌜ StartsOf (now file) (sections .starts) ⌝ }
+pub fn enumerated_entry(file: &[u32], source: &[usize], e: u32) -> bool
+    requires { ⌜ StartsOf (now file) (now source) ⌝ }
     ensures { λ r. ⌜ r ≡ Accept.enumeratedEntry (now (file .entry)) e ⌝ }
 {
-    number_in(file, sections, ENTRIES, e)
-        & (word(file, sections, ENTRIES, e, 1) == 0)
-        & (word(file, sections, ENTRIES, e, 0) == 1)
+    number_in(file, source, ENTRIES, e)
+        & (word(file, source, ENTRIES, e, 1) == 0)
+        & (word(file, source, ENTRIES, e, 0) == 1)
 }
 
-fn reference_points(file: &[u32], sections: Sections, x: u32) -> bool
-    requires { ⌜ StartsOf (now file) (sections .starts) ⌝ }
+fn reference_points(file: &[u32], source: &[usize], x: u32) -> bool
+    requires { ⌜ StartsOf (now file) (now source) ⌝ }
     ensures { λ r. ⌜ r ≡ Accept.referencePoints (now (file .entry)) x ⌝ }
 {
-    let kind = word(file, sections, EXPRESSIONS, x, 0);
-    number_in(file, sections, EXPRESSIONS, x) & ((kind == 4) | (kind == 5))
+    let kind = word(file, source, EXPRESSIONS, x, 0);
+    number_in(file, source, EXPRESSIONS, x) & ((kind == 4) | (kind == 5))
 }
 
 // No link, or one to a constant of a kind.
-pub fn link_to_constant(file: &[u32], sections: Sections, kind: u32, link: u32) -> bool
-    requires { ⌜ StartsOf (now file) (sections .starts) ⌝ }
+pub fn link_to_constant(file: &[u32], source: &[usize], kind: u32, link: u32) -> bool
+    requires { ⌜ StartsOf (now file) (now source) ⌝ }
     ensures { λ r. ⌜ r ≡ Accept.linkTo (Accept.constantIn (now (file .entry)) kind) link ⌝ }
 {
     if link == 0 {
         return true;
     }
-    constant_in(file, sections, kind, link - 1)
+    constant_in(file, source, kind, link - 1)
 }
 
-pub fn link_to_enumerated(file: &[u32], sections: Sections, link: u32) -> bool
-    requires { ⌜ StartsOf (now file) (sections .starts) ⌝ }
+pub fn link_to_enumerated(file: &[u32], source: &[usize], link: u32) -> bool
+    requires { ⌜ StartsOf (now file) (now source) ⌝ }
     ensures { λ r. ⌜ r ≡ Accept.linkTo (Accept.enumeratedEntry (now (file .entry))) link ⌝ }
 {
     if link == 0 {
         return true;
     }
-    enumerated_entry(file, sections, link - 1)
+    enumerated_entry(file, source, link - 1)
 }
 
-pub fn link_to_reference(file: &[u32], sections: Sections, link: u32) -> bool
-    requires { ⌜ StartsOf (now file) (sections .starts) ⌝ }
+pub fn link_to_reference(file: &[u32], source: &[usize], link: u32) -> bool
+    requires { ⌜ StartsOf (now file) (now source) ⌝ }
     ensures { λ r. ⌜ r ≡ Accept.linkTo (Accept.referencePoints (now (file .entry))) link ⌝ }
 {
     if link == 0 {
         return true;
     }
-    reference_points(file, sections, link - 1)
+    reference_points(file, source, link - 1)
 }
 
 // An alias always has an initializer.
-pub fn start_in(file: &[u32], sections: Sections, link: u32) -> bool
-    requires { ⌜ StartsOf (now file) (sections .starts) ⌝ }
+pub fn start_in(file: &[u32], source: &[usize], link: u32) -> bool
+    requires { ⌜ StartsOf (now file) (now source) ⌝ }
     ensures { λ r. ⌜ r ≡ onLink link false (Accept.numberIn (now (file .entry)) initializers) ⌝ }
 {
     if link == 0 {
         return false;
     }
-    number_in(file, sections, INITIALIZERS, link - 1)
+    number_in(file, source, INITIALIZERS, link - 1)
 }
 
 // A type's name: a link, or inline where that is allowed.
-pub fn name_in(file: &[u32], sections: Sections, inlined: bool, w: u32) -> bool
-    requires { ⌜ StartsOf (now file) (sections .starts) ⌝ }
+pub fn name_in(file: &[u32], source: &[usize], inlined: bool, w: u32) -> bool
+    requires { ⌜ StartsOf (now file) (now source) ⌝ }
     ensures { λ r. ⌜ r ≡ Accept.nameIn (now (file .entry)) inlined w ⌝ }
 {
-    link_in(file, sections, TYPES, w) | (inlined & (w == INLINE))
+    link_in(file, source, TYPES, w) | (inlined & (w == INLINE))
 }
 
 // A type's block fields: a run, or none where the Rust has no block record.
-pub fn block_points(file: &[u32], sections: Sections, first: u32, many: u32) -> bool
-    requires { ⌜ StartsOf (now file) (sections .starts) ⌝ }
+pub fn block_points(file: &[u32], source: &[usize], first: u32, many: u32) -> bool
+    requires { ⌜ StartsOf (now file) (now source) ⌝ }
     ensures { λ r. ⌜ r ≡ Accept.blockPoints (now (file .entry)) first many ⌝ }
 {
-    run_in(file, sections, BLOCK_FIELDS, first, many) | ((first == INLINE) & (many == 0))
+    run_in(file, source, BLOCK_FIELDS, first, many) | ((first == INLINE) & (many == 0))
 }

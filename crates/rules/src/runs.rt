@@ -10,7 +10,6 @@ use crate::inside::run_in;
 use definition::layout::ENTRIES;
 use definition::layout::SHAPE_FIELDS;
 use plain::words::is_name;
-use records::words::Sections;
 use records::words::word;
 
 // What every record of a run has to meet.
@@ -37,49 +36,49 @@ fn array_kind(kind: u32) -> bool
     }
 }
 
-fn array_entry(file: &[u32], sections: Sections, e: u32) -> bool
-    requires { ⌜ StartsOf (now file) (sections .starts) ⌝ }
+fn array_entry(file: &[u32], source: &[usize], e: u32) -> bool
+    requires { ⌜ StartsOf (now file) (now source) ⌝ }
     ensures { λ r. ⌜ r ≡ Accept.arrayEntry (now (file .entry)) e ⌝ }
 {
-    (word(file, sections, ENTRIES, e, 1) == 0) & array_kind(word(file, sections, ENTRIES, e, 0))
+    (word(file, source, ENTRIES, e, 1) == 0) & array_kind(word(file, source, ENTRIES, e, 0))
 }
 
 // Kind 6 stands only in arrays; member lists take named entries only.
-fn member_entry(file: &[u32], sections: Sections, e: u32) -> bool
-    requires { ⌜ StartsOf (now file) (sections .starts) ⌝ }
+fn member_entry(file: &[u32], source: &[usize], e: u32) -> bool
+    requires { ⌜ StartsOf (now file) (now source) ⌝ }
     ensures { λ r. ⌜ r ≡ Accept.memberEntry (now (file .entry)) e ⌝ }
 {
-    is_name(word(file, sections, ENTRIES, e, 1)) & (word(file, sections, ENTRIES, e, 0) <= 5)
+    is_name(word(file, source, ENTRIES, e, 1)) & (word(file, source, ENTRIES, e, 0) <= 5)
 }
 
-fn meets(file: &[u32], sections: Sections, rule: Rule, n: u32) -> bool
-    requires { ⌜ StartsOf (now file) (sections .starts) ⌝ }
+fn meets(file: &[u32], source: &[usize], rule: Rule, n: u32) -> bool
+    requires { ⌜ StartsOf (now file) (now source) ⌝ }
     ensures { λ r. ⌜ r ≡ Rules.meets (now (file .entry)) rule n ⌝ }
 {
     match rule {
-        Rule::FieldBelow { shape } => word(file, sections, SHAPE_FIELDS, n, 1) < shape,
-        Rule::ArrayEntry => array_entry(file, sections, n),
-        Rule::MemberEntry => member_entry(file, sections, n),
+        Rule::FieldBelow { shape } => word(file, source, SHAPE_FIELDS, n, 1) < shape,
+        Rule::ArrayEntry => array_entry(file, source, n),
+        Rule::MemberEntry => member_entry(file, source, n),
     }
 }
 
 // A run inside its section, each of whose records meets a rule.
 pub fn run_of(
     file: &[u32],
-    sections: Sections,
+    source: &[usize],
     section: usize,
     rule: Rule,
     first: u32,
     many: u32,
 ) -> bool
-    requires { ⌜ StartsOf (now file) (sections .starts) × (section < 14) ⌝ }
+    requires { ⌜ StartsOf (now file) (now source) × (section < 14) ⌝ }
     ensures { λ r. ⌜ r ≡ Accept.runOf (now (file .entry)) section (Rules.meets (now (file .entry)) rule) first many ⌝ }
 {
-    if !run_in(file, sections, section, first, many) {
+    if !run_in(file, source, section, first, many) {
         return false;
     }
     for j in 0..many {
-        if !meets(file, sections, rule, first + j) {
+        if !meets(file, source, rule, first + j) {
             return false;
         }
     }
@@ -87,35 +86,28 @@ pub fn run_of(
 }
 
 // Entries point only to lower entries; an empty run points at none.
-pub fn lower_run(
-    file: &[u32],
-    sections: Sections,
-    e: u32,
-    rule: Rule,
-    first: u32,
-    many: u32,
-) -> bool
-    requires { ⌜ StartsOf (now file) (sections .starts) ⌝ }
+pub fn lower_run(file: &[u32], source: &[usize], e: u32, rule: Rule, first: u32, many: u32) -> bool
+    requires { ⌜ StartsOf (now file) (now source) ⌝ }
     ensures { λ r. ⌜ r ≡ Accept.lowerRun (now (file .entry)) e (Rules.meets (now (file .entry)) rule) first many ⌝ }
 {
-    run_of(file, sections, ENTRIES, rule, first, many)
+    run_of(file, source, ENTRIES, rule, first, many)
         & (((first as u64) + (many as u64) <= (e as u64)) | (many == 0))
 }
 
-fn lower_array_entry(file: &[u32], sections: Sections, e: u32, i: u32) -> bool
-    requires { ⌜ StartsOf (now file) (sections .starts) ⌝ }
+fn lower_array_entry(file: &[u32], source: &[usize], e: u32, i: u32) -> bool
+    requires { ⌜ StartsOf (now file) (now source) ⌝ }
     ensures { λ r. ⌜ r ≡ ltb i e && Accept.arrayEntry (now (file .entry)) i ⌝ }
 {
-    (i < e) & array_entry(file, sections, i)
+    (i < e) & array_entry(file, source, i)
 }
 
 // A repeat's inner entry.
-pub fn link_to_lower(file: &[u32], sections: Sections, e: u32, link: u32) -> bool
-    requires { ⌜ StartsOf (now file) (sections .starts) ⌝ }
+pub fn link_to_lower(file: &[u32], source: &[usize], e: u32, link: u32) -> bool
+    requires { ⌜ StartsOf (now file) (now source) ⌝ }
     ensures { λ r. ⌜ r ≡ Accept.linkTo (λ i. ltb i e && Accept.arrayEntry (now (file .entry)) i) link ⌝ }
 {
     if link == 0 {
         return true;
     }
-    lower_array_entry(file, sections, e, link - 1)
+    lower_array_entry(file, source, e, link - 1)
 }

@@ -9,7 +9,6 @@ ghost use Rattle.rules.specs.Rules.{ruleOf};
 use crate::rules::plain_rule;
 use crate::rules::point_rule;
 use definition::layout::SECTIONS;
-use records::words::Sections;
 use records::words::count;
 
 // What a scan holds records to: their plain words (refusal 3), or what they point at (refusal 4).
@@ -18,35 +17,35 @@ pub enum Scan {
     Points,
 }
 
-fn record_right(file: &[u32], sections: Sections, scan: Scan, section: usize, n: u32) -> bool
-    requires { ⌜ StartsOf (now file) (sections .starts) ⌝ }
+fn record_right(file: &[u32], source: &[usize], scan: Scan, section: usize, n: u32) -> bool
+    requires { ⌜ StartsOf (now file) (now source) ⌝ }
     ensures { λ r. ⌜ r ≡ ruleOf (now (file .entry)) scan section n ⌝ }
 {
     match scan {
-        Scan::Words => plain_rule(file, sections, section, n),
-        Scan::Points => point_rule(file, sections, section, n),
+        Scan::Words => plain_rule(file, source, section, n),
+        Scan::Points => point_rule(file, source, section, n),
     }
 }
 
-fn section_right(file: &[u32], sections: Sections, scan: Scan, section: usize) -> bool
-    requires { ⌜ StartsOf (now file) (sections .starts) × (section < 14) ⌝ }
+fn section_right(file: &[u32], source: &[usize], scan: Scan, section: usize) -> bool
+    requires { ⌜ StartsOf (now file) (now source) × (section < 14) ⌝ }
     ensures { λ r. ⌜ r ≡ every (ruleOf (now (file .entry)) scan section) (Layout.count (now (file .entry)) section) ⌝ }
 {
-    let many = count(file, sections, section);
+    let many = count(file, source, section);
     for n in 0..many {
-        if !record_right(file, sections, scan, section, n) {
+        if !record_right(file, source, scan, section, n) {
             return false;
         }
     }
     true
 }
 
-fn sections_right(file: &[u32], sections: Sections, scan: Scan) -> bool
-    requires { ⌜ StartsOf (now file) (sections .starts) ⌝ }
+fn sections_right(file: &[u32], source: &[usize], scan: Scan) -> bool
+    requires { ⌜ StartsOf (now file) (now source) ⌝ }
     ensures { λ r. ⌜ r ≡ every (λ s. every (ruleOf (now (file .entry)) scan s) (Layout.count (now (file .entry)) s)) 14 ⌝ }
 {
     for s in 0..SECTIONS {
-        if !section_right(file, sections, scan, s) {
+        if !section_right(file, source, scan, s) {
             return false;
         }
     }
@@ -54,17 +53,17 @@ fn sections_right(file: &[u32], sections: Sections, scan: Scan) -> bool
 }
 
 // Refusal 3: a word has a value that its record does not allow.
-pub fn words_right(file: &[u32], sections: Sections) -> bool
-    requires { ⌜ StartsOf (now file) (sections .starts) ⌝ }
+pub fn words_right(file: &[u32], source: &[usize]) -> bool
+    requires { ⌜ StartsOf (now file) (now source) ⌝ }
     ensures { λ r. ⌜ r ≡ wordsRight (now (file .entry)) ⌝ }
 {
-    sections_right(file, sections, Scan::Words)
+    sections_right(file, source, Scan::Words)
 }
 
 // Refusal 4: a used number, link or run points where it must not.
-pub fn points_right(file: &[u32], sections: Sections) -> bool
-    requires { ⌜ StartsOf (now file) (sections .starts) ⌝ }
+pub fn points_right(file: &[u32], source: &[usize]) -> bool
+    requires { ⌜ StartsOf (now file) (now source) ⌝ }
     ensures { λ r. ⌜ r ≡ pointsRight (now (file .entry)) ⌝ }
 {
-    sections_right(file, sections, Scan::Points)
+    sections_right(file, source, Scan::Points)
 }

@@ -10,7 +10,6 @@ ghost use Rattle.shapes.specs.Alike.{classIn, sameIn, sameListed};
 use definition::layout::DIMENSIONS;
 use definition::layout::MEMBERS;
 use definition::layout::SHAPE_FIELDS;
-use records::words::Sections;
 use records::words::run_word;
 
 // What a run lists.
@@ -51,61 +50,61 @@ pub fn same_link(classes: &[u32], m: u32, n: u32) -> bool
 // Word `place` is the same in records `a + j` and `b + j`.
 fn same_run_word(
     file: &[u32],
-    sections: Sections,
+    source: &[usize],
     section: usize,
     a: u32,
     b: u32,
     j: u32,
     place: usize,
 ) -> bool
-    requires { ⌜ StartsOf (now file) (sections .starts) × (section < 14) × (place < 16) ⌝ }
+    requires { ⌜ StartsOf (now file) (now source) × (section < 14) × (place < 16) ⌝ }
     ensures { λ r. ⌜ r ≡ eqb (Layout.word (now (file .entry)) section (a + j) place) (Layout.word (now (file .entry)) section (b + j) place) ⌝ }
 {
-    run_word(file, sections, section, a, j, place) == run_word(file, sections, section, b, j, place)
+    run_word(file, source, section, a, j, place) == run_word(file, source, section, b, j, place)
 }
 
-fn same_field(file: &[u32], sections: Sections, classes: &[u32], a: u32, b: u32, j: u32) -> bool
-    requires { ⌜ StartsOf (now file) (sections .starts) ⌝ }
+fn same_field(file: &[u32], source: &[usize], classes: &[u32], a: u32, b: u32, j: u32) -> bool
+    requires { ⌜ StartsOf (now file) (now source) ⌝ }
     ensures { λ r. ⌜ r ≡ Accept.sameField (now (file .entry)) (sameIn (now (classes .entry))) (a + j) (b + j) ⌝ }
 {
-    let left = run_word(file, sections, SHAPE_FIELDS, a, j, 1);
-    let right = run_word(file, sections, SHAPE_FIELDS, b, j, 1);
-    same_run_word(file, sections, SHAPE_FIELDS, a, b, j, 0)
+    let left = run_word(file, source, SHAPE_FIELDS, a, j, 1);
+    let right = run_word(file, source, SHAPE_FIELDS, b, j, 1);
+    same_run_word(file, source, SHAPE_FIELDS, a, b, j, 0)
         & same_in(classes, left, right)
-        & same_run_word(file, sections, SHAPE_FIELDS, a, b, j, 2)
+        & same_run_word(file, source, SHAPE_FIELDS, a, b, j, 2)
 }
 
-fn same_dimension(file: &[u32], sections: Sections, a: u32, b: u32, j: u32) -> bool
-    requires { ⌜ StartsOf (now file) (sections .starts) ⌝ }
+fn same_dimension(file: &[u32], source: &[usize], a: u32, b: u32, j: u32) -> bool
+    requires { ⌜ StartsOf (now file) (now source) ⌝ }
     ensures { λ r. ⌜ r ≡ Accept.sameDimension (now (file .entry)) (a + j) (b + j) ⌝ }
 {
-    same_run_word(file, sections, DIMENSIONS, a, b, j, 0)
-        & same_run_word(file, sections, DIMENSIONS, a, b, j, 1)
+    same_run_word(file, source, DIMENSIONS, a, b, j, 0)
+        & same_run_word(file, source, DIMENSIONS, a, b, j, 1)
 }
 
 fn same_listed(
     file: &[u32],
-    sections: Sections,
+    source: &[usize],
     classes: &[u32],
     listing: Listing,
     a: u32,
     b: u32,
     j: u32,
 ) -> bool
-    requires { ⌜ StartsOf (now file) (sections .starts) ⌝ }
+    requires { ⌜ StartsOf (now file) (now source) ⌝ }
     ensures { λ r. ⌜ r ≡ sameListed (now (file .entry)) (now (classes .entry)) listing (a + j) (b + j) ⌝ }
 {
     match listing {
-        Listing::Members => same_run_word(file, sections, MEMBERS, a, b, j, 0),
-        Listing::Fields => same_field(file, sections, classes, a, b, j),
-        Listing::Dimensions => same_dimension(file, sections, a, b, j),
+        Listing::Members => same_run_word(file, source, MEMBERS, a, b, j, 0),
+        Listing::Fields => same_field(file, source, classes, a, b, j),
+        Listing::Dimensions => same_dimension(file, source, a, b, j),
     }
 }
 
 // Two runs list the same.
 pub fn same_run(
     file: &[u32],
-    sections: Sections,
+    source: &[usize],
     classes: &[u32],
     listing: Listing,
     a: u32,
@@ -113,14 +112,14 @@ pub fn same_run(
     b: u32,
     n: u32,
 ) -> bool
-    requires { ⌜ StartsOf (now file) (sections .starts) ⌝ }
+    requires { ⌜ StartsOf (now file) (now source) ⌝ }
     ensures { λ r. ⌜ r ≡ Accept.listed (sameListed (now (file .entry)) (now (classes .entry)) listing) a m b n ⌝ }
 {
     if m != n {
         return false;
     }
     for j in 0..m {
-        if !same_listed(file, sections, classes, listing, a, b, j) {
+        if !same_listed(file, source, classes, listing, a, b, j) {
             return false;
         }
     }

@@ -6,7 +6,6 @@ ghost use Rattle.records.specs.Starts.{StartsOf};
 use definition::layout::DIMENSIONS;
 use definition::layout::SHAPES;
 use plain::words::biased;
-use records::words::Sections;
 use records::words::count;
 use records::words::run_word;
 use records::words::word;
@@ -14,13 +13,13 @@ use records::words::word;
 const MOST_ELEMENTS: u64 = 65536;
 
 // How many elements dimension `first + j` counts; 0 where it ends before it starts.
-fn dimension_span(file: &[u32], sections: Sections, first: u32, j: u32) -> u64
-    requires { ⌜ StartsOf (now file) (sections .starts) ⌝ }
+fn dimension_span(file: &[u32], source: &[usize], first: u32, j: u32) -> u64
+    requires { ⌜ StartsOf (now file) (now source) ⌝ }
     ensures is { λ r. ⌜ r ≡ dimensionSpan (now (file .entry)) (first + j) ⌝ }
     ensures small { λ r. ⌜ r ≤ 2 ^ 32 ⌝ }
 {
-    let lower = biased(run_word(file, sections, DIMENSIONS, first, j, 0)) as u64;
-    let upper = biased(run_word(file, sections, DIMENSIONS, first, j, 1)) as u64;
+    let lower = biased(run_word(file, source, DIMENSIONS, first, j, 0)) as u64;
+    let upper = biased(run_word(file, source, DIMENSIONS, first, j, 1)) as u64;
     if upper + 1 < lower {
         return 0;
     }
@@ -37,38 +36,38 @@ fn capped(n: u64) -> u64
     MOST_ELEMENTS + 1
 }
 
-fn elements(file: &[u32], sections: Sections, first: u32, many: u32) -> u64
-    requires { ⌜ StartsOf (now file) (sections .starts) ⌝ }
+fn elements(file: &[u32], source: &[usize], first: u32, many: u32) -> u64
+    requires { ⌜ StartsOf (now file) (now source) ⌝ }
     ensures { λ r. ⌜ r ≡ min (elementsOf (now (file .entry)) first many) 65537 ⌝ }
 {
     let mut product: u64 = 1;
     for j in 0..many {
-        product = capped(product * dimension_span(file, sections, first, j));
+        product = capped(product * dimension_span(file, source, first, j));
     }
     product
 }
 
-fn array_small(file: &[u32], sections: Sections, n: u32) -> bool
-    requires { ⌜ StartsOf (now file) (sections .starts) ⌝ }
+fn array_small(file: &[u32], source: &[usize], n: u32) -> bool
+    requires { ⌜ StartsOf (now file) (now source) ⌝ }
     ensures { λ r. ⌜ r ≡ arraySmall (now (file .entry)) n ⌝ }
 {
-    let kind = word(file, sections, SHAPES, n, 0);
+    let kind = word(file, source, SHAPES, n, 0);
     if kind != 12 {
         return true;
     }
-    let first = word(file, sections, SHAPES, n, 2);
-    let many = word(file, sections, SHAPES, n, 3);
-    elements(file, sections, first, many) <= MOST_ELEMENTS
+    let first = word(file, source, SHAPES, n, 2);
+    let many = word(file, source, SHAPES, n, 3);
+    elements(file, source, first, many) <= MOST_ELEMENTS
 }
 
 // An array shape has more than 65,536 elements.
-pub fn arrays_small(file: &[u32], sections: Sections) -> bool
-    requires { ⌜ StartsOf (now file) (sections .starts) ⌝ }
+pub fn arrays_small(file: &[u32], source: &[usize]) -> bool
+    requires { ⌜ StartsOf (now file) (now source) ⌝ }
     ensures { λ r. ⌜ r ≡ arraysSmall (now (file .entry)) ⌝ }
 {
-    let many = count(file, sections, SHAPES);
+    let many = count(file, source, SHAPES);
     for n in 0..many {
-        if !array_small(file, sections, n) {
+        if !array_small(file, source, n) {
             return false;
         }
     }

@@ -12,18 +12,17 @@ ghost use Rattle.shapes.specs.Classes.{classesOf, Classes};
 use crate::alike::same_in;
 use crate::like::first_like;
 use definition::layout::SHAPES;
-use records::words::Sections;
 use records::words::count;
 
 // Bottom up: shapes point only lower, so a shape is compared through classes that stand already.
-pub fn shape_classes(file: &[u32], sections: Sections, words: &mut [u32])
-    requires { ⌜ StartsOf (now file) (sections .starts) × Accepted (now file) × (Layout.count (now file) shapes ≤ length (now words)) ⌝ }
+pub fn shape_classes(file: &[u32], source: &[usize], words: &mut [u32])
+    requires { ⌜ StartsOf (now file) (now source) × Accepted (now file) × (Layout.count (now file) shapes ≤ length (now words)) ⌝ }
     ensures { λ _. ⌜ now (words .exit) ≡ classesOf (now (file .entry)) ++ drop (Layout.count (now (file .entry)) shapes) (now (words .entry)) ⌝ }
 {
-    let many = count(file, sections, SHAPES);
+    let many = count(file, source, SHAPES);
     for n in 0..many {
         let at = n as usize;
-        let class = first_like(file, sections, &words[..at], false, n);
+        let class = first_like(file, source, &words[..at], false, n);
         words[at] = class;
     }
 }

@@ -27,18 +27,18 @@ use scalar::node::node;
 fn value_at(file: &[u32], shape: u32, constant: u32) -> Leaf
     ensures { λ r. ⌜ resultOf r ≡ scalar.converted (now (file .entry)) (shapeAt (now (file .entry)) shape) (constantAt (now (file .entry)) constant) ⌝ }
 {
-    let sections = find_sections(file);
-    let s = shape_at(file, sections, shape);
-    let c = constant_at(file, sections, constant);
-    converted(file, sections, s, c)
+    let source = find_sections(file);
+    let s = shape_at(file, &source, shape);
+    let c = constant_at(file, &source, constant);
+    converted(file, &source, s, c)
 }
 
 fn there(file: &[u32], shape: u32, constant: u32) -> bool
     ensures { λ r. ⌜ r ≡ Convert.there (now (file .entry)) shape constant ⌝ }
 {
-    let sections = find_sections(file);
-    if shape < count(file, sections, SHAPES) {
-        return constant < count(file, sections, CONSTANTS);
+    let source = find_sections(file);
+    if shape < count(file, &source, SHAPES) {
+        return constant < count(file, &source, CONSTANTS);
     }
     false
 }

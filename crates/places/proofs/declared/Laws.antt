@@ -2,10 +2,12 @@
 use mathlib.Core.Path.{_≡_, refl, subst, sym, _∙_}
 use mathlib.Core.Bool.{Bool, true, false, _&&_, _||_, or-true}
 use mathlib.Core.List.{List}
-use Prim.Native.Nat.{ℕ, suc, _+_, _-_, _^_, _<_, _≤_}
+use Prim.Native.Nat.{ℕ, zero, suc, _+_, _-_, _^_, _<_, _≤_}
 use native.Mathlib.Omega.{arith}
 use native.Mathlib.Numerals.{add-one}
 use lib.Dec.{eqb, leb, lit<}
+use lib.ListN.{getD, set, length-set}
+use lib.Seq.{getD-set-same, getD-set-other}
 use borrow.Author.Needs.{needs}
 use borrow.Author.Tests.{eq-eqb, ne-eqb, eqb-false, le-leb, lt-leb}
 use Rattle.definition.specs.Base.{pick, onLink, inline}
@@ -13,10 +15,11 @@ use Rattle.definition.specs.Layout.{word, count, types, elements, initializers,
 use Rattle.definition.specs.Records.{aliasBase, declarationKind, initializerKind, namedType}
 use Rattle.definition.specs.Places.{firstNamed, simpleTarget, aliasTarget, fieldDeclarationUpTo, declaredTypes, fieldDeclaration, declaredType, declaredElement}
 use Rattle.laws.specs.Links.{link-to}
-use Rattle.laws.specs.Accepted.{Accepted, count-most, element-points}
+use Rattle.laws.specs.Accepted.{Accepted, count-most, few-types, element-points}
 use Rattle.laws.specs.Pointed.{DeclarationPointed, declaration-pointed, named-of}
 use Rattle.laws.specs.Nearby.{structure-at, alias-target}
 use Rattle.laws.specs.Used.{IsType, leads-inside}
+use Rattle.records.specs.Starts.{StartsOf, DeclaredIn}
 use Rattle.records.proofs.Links.{a-link}
 use Rattle.places.proofs.Steps.{Comes, goes-on, stops, ends}
 
@@ -73,6 +76,10 @@ module _ (f : List ℕ) (t : ℕ) {kind : ℕ} (is : kind ≡ word f types t 4) 
     unfolding declarationKind
     one-declared h = rw (← is, le-leb 1 kind l, le-leb kind 8 h)
 
+one : (b : Bool) → pick b 1 0 ≤ 1
+one true = omega arith
+one false = omega arith
+
 -- so many of the types below t are declared
 pub record Counted (f : List ℕ) (t n : ℕ) : Type 0 where
   pub so-far : n ≡ declaredTypes f t
@@ -86,14 +93,10 @@ pub counts-next : {f : List ℕ} {t n : ℕ} → Counted f t n → {r : ℕ} →
 unfolding declaredTypes
 counts-next {f} {t} {n} i {r} e = record { so-far = rw (add-one, e, i .so-far); most = omega (arith, i .most, small) }
   where
-    one : (b : Bool) → pick b 1 0 ≤ 1
-    one true = omega arith
-    one false = omega arith
-
     small : r ≤ 1
     small = rw e (one (leb 1 (declarationKind f t) && leb (declarationKind f t) 8))
 
-pub one-more : {f : List ℕ} {t n m : ℕ} → Counted f t n → t < m → m < 2 ^ 32 → {r : ℕ} → r ≡ pick (leb 1 (declarationKind f t) && leb (declarationKind f t) 8) 1 0 → n + r < 2 ^ 32
+pub one-more : {f : List ℕ} {t n m : ℕ} → Counted f t n → t < m → m < 2 ^ 32 → {r : ℕ} → r ≡ pick (leb 1 (declarationKind f t) && leb (declarationKind f t) 8) 1 0 → n + r < 2 ^ 64
 one-more i h l e = omega (arith, counts-next i e .most)
 
 pub counted-all : {f : List ℕ} {t n m : ℕ} → Counted f t n → t ≤ m → m ≤ t → m ≡ count f types → n ≡ declaredTypes f (count f types)
@@ -144,11 +147,31 @@ module _ (f : List ℕ) (t : ℕ) {first many : ℕ} (p : first ≡ word f types
           (named-of f elements name (λ e. e < count f elements) first many (λ j m. omega arith)) in
           omega (arith, h, element-points f a (e - 1) g, count-most f a initializers (lit< tt))
 
+-- ---- `source_of`
+pub starts-kept : {f starts : List ℕ} → StartsOf f starts → (n : ℕ) → StartsOf f (set starts 15 n)
+starts-kept {f} {starts} i n =
+    record {
+      long = length-set starts 15 n ∙ i .long;
+      start = λ s l. getD-set-other starts 15 s n 0 (λ e. omega arith) ∙ i .start s l;
+      near = λ s l. rw (getD-set-other starts 15 s n 0 (λ e. omega arith)) (i .near s l);
+    }
+
+pub declared-put : {f starts : List ℕ} → StartsOf f starts → {n : ℕ} → n ≡ declaredTypes f (count f types) → DeclaredIn f (set starts 15 n)
+declared-put {f} {starts} i {n} e = record { counted = getD-set-same starts 15 n 0 (omega (arith, i .long)) ∙ e }
+
 -- ---- `field_declaration`
+declared-most : (f : List ℕ) (t : ℕ) → declaredTypes f t ≤ t
+unfolding declaredTypes
+declared-most f zero = omega arith
+declared-most f (suc t) = omega (arith, declared-most f t, one (leb 1 (declarationKind f t) && leb (declarationKind f t) 8))
+
+pub declared-fits : {f source : List ℕ} → Accepted f → DeclaredIn f source → getD source 15 0 + 1 < 2 ^ 64
+declared-fits {f} {source} a i = omega (arith, i .counted, few-types f a, declared-most f (count f types))
+
 module _ (f : List ℕ) (name t : ℕ) where
-  pub declared-starts : {steps : ℕ} → steps ≡ declaredTypes f (count f types) → Comes (fieldDeclarationUpTo f name) (steps + 1) t (fieldDeclaration f name t)
+  pub declared-starts : {source : List ℕ} → DeclaredIn f source → Comes (fieldDeclarationUpTo f name) (getD source 15 0 + 1) t (fieldDeclaration f name t)
   unfolding fieldDeclaration
-  declared-starts e = record { same = rw (e, add-one) }
+  declared-starts i = record { same = rw (i .counted, add-one) }
 
   pub declared-ends : 0 ≡ fieldDeclarationUpTo f name 0 t
   unfolding fieldDeclarationUpTo
@@ -180,4 +203,4 @@ target-inside {f} a t h {g} e n =
     link-to (IsType f) (aliasTarget f t) (g - 1) (sym e ∙ z) (alias-target f (IsType f) (IsType f) (leads-inside f a) t h)
 
 pub ruleset laws =
-    (needs, inline-type, named-type, inline-element, named-element, elements-fit, no-element, an-element, element-fits, declared-starts, declared-ends, declared-here, no-target, target-next, kind-is, target-inside, target-below, target-above, target-named, alias-base, no-simple, no-start, simple-start, none-declared, block-declared, one-declared, counts, counts-next, one-more, counted-all, goes-on, stops, ends)
+    (needs, inline-type, named-type, inline-element, named-element, elements-fit, no-element, an-element, element-fits, starts-kept, declared-put, declared-fits, declared-starts, declared-ends, declared-here, no-target, target-next, kind-is, target-inside, target-below, target-above, target-named, alias-base, no-simple, no-start, simple-start, none-declared, block-declared, one-declared, counts, counts-next, one-more, counted-all, goes-on, stops, ends)

@@ -7,10 +7,10 @@ use Rattle.acceptance.proofs.depths.deepest.Statement.{statement}
 use Rattle.acceptance.proofs.depths.deepest.Tie as tie
 
 abbrev Inv-loop : tie.InvT-loop
-Inv-loop file sections run depths first many most₀ j₀ most j = (j ≤ many) × StartsOf file (sections .starts) × Greatest (depthAt file run depths) first j most
+Inv-loop file source run depths first many most₀ j₀ most j = (j ≤ many) × StartsOf file source × Greatest (depthAt file run depths) first j most
 
 abbrev μ-loop : tie.MeasureT-loop
-μ-loop file sections run depths first many most₀ j₀ most j = many - j
+μ-loop file source run depths first many most₀ j₀ most j = many - j
 
 pub deepest-spec : {M : Type 1} → statement M
 deepest-spec =

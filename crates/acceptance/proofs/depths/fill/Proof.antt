@@ -15,10 +15,10 @@ use Rattle.acceptance.proofs.depths.fill.Statement.{statement}
 use Rattle.acceptance.proofs.depths.fill.Tie as tie
 
 abbrev Inv-loop : tie.InvT-loop
-Inv-loop file sections nesting many words₀ n₀ words n = (n ≤ many) × (many ≤ length words₀) × (length words ≡ length words₀) × (many ≡ countOf file nesting) × StartsOf file (sections .starts) × Accepted file × Filled (depthOf file nesting) n words₀ words
+Inv-loop file source nesting many words₀ n₀ words n = (n ≤ many) × (many ≤ length words₀) × (length words ≡ length words₀) × (many ≡ countOf file nesting) × StartsOf file source × Accepted file × Filled (depthOf file nesting) n words₀ words
 
 abbrev μ-loop : tie.MeasureT-loop
-μ-loop file sections nesting many words₀ n₀ words n = many - n
+μ-loop file source nesting many words₀ n₀ words n = many - n
 
 pub fill-spec : {M : Type 1} → statement M
 fill-spec =
@@ -30,11 +30,11 @@ fill-spec =
     (λ c. search filling)
     (λ c. search filling)
     (λ c. let l = c .before .before .loop in sym (length-take-le (l .n) (l .words) (omega arith)))
-    (λ c κs. let i = c .before .before .loop .inv in (i .4, shallow-part (i .5) (c .before .before .before .before .before .args .nesting) (i .6) (omega arith)))
+    (λ c κs. let i = c .before .before .loop .inv in (i .4, shallow-part (i .5) (c .before .before .before .before .before .before .args .nesting) (i .6) (omega arith)))
     (λ c. search filling)
     (λ c. search filling)
     (λ c. search filling)
     (λ c. search filling)
-    (λ c. let i = c .before .before .before .loop .inv in (search needs, search needs, simp length-set (search needs), i .3, i .4, i .5, one-filled (i .6) (omega arith) (depth-next (i .5) (c .before .before .before .before .before .before .args .nesting) (i .6) (omega arith) (c .depth-of .ensures))))
+    (λ c. let i = c .before .before .before .loop .inv in (search needs, search needs, simp length-set (search needs), i .3, i .4, i .5, one-filled (i .6) (omega arith) (depth-next (i .5) (c .before .before .before .before .before .before .before .args .nesting) (i .6) (omega arith) (c .depth-of .ensures))))
     (λ c. search filling)
     (λ c. search filling))

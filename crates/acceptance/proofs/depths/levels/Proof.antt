@@ -13,7 +13,7 @@ levels-spec =
     (tie.spec
     (λ c κs. search leveling)
     (λ c κs. search leveling)
-    (λ c. let g = c .before .before in let h = g .before .before .before .before in let s = h .before .before .before .before in omega (arith, levels-fit (s .args .file .now) (h .greatest .ensures .0) (g .greatest2 .ensures .0) (s .pre .1)))
-    (λ c. let g = c .before .before in let h = g .before .before .before .before in let s = h .before .before .before .before in omega (arith, levels-fit (s .args .file .now) (h .greatest .ensures .0) (g .greatest2 .ensures .0) (s .pre .1)))
+    (λ c. let g = c .before .before in let h = g .before .before .before .before in let s = h .before .before .before .before .before in omega (arith, levels-fit (s .args .file .now) (h .greatest .ensures .0) (g .greatest2 .ensures .0) (s .pre .1)))
+    (λ c. let g = c .before .before in let h = g .before .before .before .before in let s = h .before .before .before .before .before in omega (arith, levels-fit (s .args .file .now) (h .greatest .ensures .0) (g .greatest2 .ensures .0) (s .pre .1)))
     (λ c. search leveling)
     (λ c. let g = c .before .before in let h = g .before .before .before .before in (search leveling, g .greatest2 .ensures .1 ∙ h .greatest .ensures .1)))

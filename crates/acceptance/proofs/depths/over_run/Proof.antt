@@ -10,5 +10,5 @@ over-run-spec =
     tie.close
     (tie.spec
     (λ c κs. search needs)
-    (λ c. let s = c .before .before .before in let a = s .args in omega (arith, run-small (a .file .now) (a .run) (a .depths .now) (a .first) (a .many) (s .pre .1) (c .deepest .ensures)))
+    (λ c. let s = c .before .before .before .before in let a = s .args in omega (arith, run-small (a .file .now) (a .run) (a .depths .now) (a .first) (a .many) (s .pre .1) (c .deepest .ensures)))
     (λ c. search needs))

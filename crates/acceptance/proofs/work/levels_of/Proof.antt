@@ -10,5 +10,5 @@ levels-of-spec =
     tie.close
     (tie.spec
     (λ c. search needs)
-    (λ c κs. let s = c .before .before in let f = s .args .file .now in (s .pre .0, s .pre .1, omega (arith, few-entries f (s .pre .1)), omega (arith, few-shapes f (s .pre .1)), search needs))
+    (λ c κs. let s = c .before .before .before in let f = s .args .file .now in (s .pre .0, s .pre .1, omega (arith, few-entries f (s .pre .1)), omega (arith, few-shapes f (s .pre .1)), search needs))
     (λ c. search needs))

@@ -10,6 +10,7 @@ line-words-spec =
     (λ c κs. search wanting)
     (λ c. search wanting)
     (λ c κs. search wanting)
+    (λ c. search wanting)
     (λ c κs. search wanting)
     (λ c. search wanting)
     (λ c. search wanting)

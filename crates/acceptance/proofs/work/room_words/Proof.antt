@@ -10,6 +10,7 @@ room-words-spec =
     (λ c κs. search wanting)
     (λ c. search wanting)
     (λ c κs. search wanting)
+    (λ c. search wanting)
     (λ c κs. search wanting)
     (λ c. search wanting)
     (λ c. search wanting)

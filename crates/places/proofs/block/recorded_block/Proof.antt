@@ -8,10 +8,10 @@ use Rattle.places.proofs.block.recorded_block.Statement.{statement}
 use Rattle.places.proofs.block.recorded_block.Tie as tie
 
 abbrev Inv-loop : tie.InvT-loop
-Inv-loop file sections t at₀ left₀ at left = StartsOf file (sections .starts) × (at < 2 ^ 32 - 1) × Comes (recordedUpTo file) left at (recordedBlock file t)
+Inv-loop file source t at₀ left₀ at left = StartsOf file source × (at < 2 ^ 32 - 1) × Comes (recordedUpTo file) left at (recordedBlock file t)
 
 abbrev μ-loop : tie.MeasureT-loop
-μ-loop file sections t at₀ left₀ at left = left
+μ-loop file source t at₀ left₀ at left = left
 
 pub recorded-block-spec : {M : Type 1} → statement M
 recorded-block-spec =

@@ -8,10 +8,10 @@ use Rattle.places.proofs.declared.declared_types.Statement.{statement}
 use Rattle.places.proofs.declared.declared_types.Tie as tie
 
 abbrev Inv-loop : tie.InvT-loop
-Inv-loop file sections many found₀ t₀ found t = (t ≤ many) × (many ≡ count file types) × StartsOf file (sections .starts) × Counted file t found
+Inv-loop file source many found₀ t₀ found t = (t ≤ many) × (many ≡ count file types) × StartsOf file source × Counted file t found
 
 abbrev μ-loop : tie.MeasureT-loop
-μ-loop file sections many found₀ t₀ found t = many - t
+μ-loop file source many found₀ t₀ found t = many - t
 
 pub declared-types-spec : {M : Type 1} → statement M
 declared-types-spec =

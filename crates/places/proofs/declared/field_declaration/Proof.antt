@@ -9,10 +9,10 @@ use Rattle.places.proofs.declared.field_declaration.Statement.{statemen
 use Rattle.places.proofs.declared.field_declaration.Tie as tie
 
 abbrev Inv-loop : tie.InvT-loop
-Inv-loop file sections name t steps at₀ left₀ at left = StartsOf file (sections .starts) × Accepted file × IsType file at × Comes (fieldDeclarationUpTo file name) left at (fieldDeclaration file name t)
+Inv-loop file source name t at₀ left₀ at left = StartsOf file source × Accepted file × IsType file at × Comes (fieldDeclarationUpTo file name) left at (fieldDeclaration file name t)
 
 abbrev μ-loop : tie.MeasureT-loop
-μ-loop file sections name t steps at₀ left₀ at left = left
+μ-loop file source name t at₀ left₀ at left = left
 
 pub field-declaration-spec : {M : Type 1} → statement M
 field-declaration-spec =
@@ -20,6 +20,7 @@ field-declaration-spec =
     (tie.spec
     Inv-loop
     μ-loop
+    (λ c. search laws)
     (λ c. search laws)
     (λ c. search laws)
     (λ c κs. search laws)

@@ -16,16 +16,16 @@ use Rattle.records.proofs.view.expression_at.Reads as expression-at-reads
 use Rattle.places.proofs.expressions.+expression.{statement}
 use Rattle.places.proofs.expressions.+expression.Tie.{close}
 
-abbrev μ-expression : Measures 1 expression-kinds.ps ℕ
+abbrev μ-expression : Measures 2 expression-kinds.ps ℕ
 μ-expression κs a = a .1 .1 .1 .0
 
-abbrev expression-at : ℕ → In 1 expression-kinds.ps
+abbrev expression-at : ℕ → In 2 expression-kinds.ps
 expression-at t =
-    and 1 expression-kinds.ps (is 1 expression-kinds.ps μ-expression t) expression.Pre
+    and 2 expression-kinds.ps (is 2 expression-kinds.ps μ-expression t) expression.Pre
 
-abbrev expression-below : ℕ → In 1 expression-kinds.ps
+abbrev expression-below : ℕ → In 2 expression-kinds.ps
 expression-below t =
-    and 1 expression-kinds.ps (falls 1 expression-kinds.ps _<_ μ-expression t) expression.Pre
+    and 2 expression-kinds.ps (falls 2 expression-kinds.ps _<_ μ-expression t) expression.Pre
 
 pub +expression-spec : {M : Type 1} → statement M
 +expression-spec =

@@ -8,10 +8,10 @@ use Rattle.places.proofs.named.first_named.Statement.{statement}
 use Rattle.places.proofs.named.first_named.Tie as tie
 
 abbrev Inv-loop : tie.InvT-loop
-Inv-loop file sections section name first many at₀ left₀ at left = StartsOf file (sections .starts) × (section < 14) × (at + left < 2 ^ 32) × Comes (λ k x. firstNamed file section name x k) left at (firstNamed file section name first many)
+Inv-loop file source section name first many at₀ left₀ at left = StartsOf file source × (section < 14) × (at + left < 2 ^ 32) × Comes (λ k x. firstNamed file section name x k) left at (firstNamed file section name first many)
 
 abbrev μ-loop : tie.MeasureT-loop
-μ-loop file sections section name first many at₀ left₀ at left = left
+μ-loop file source section name first many at₀ left₀ at left = left
 
 pub first-named-spec : {M : Type 1} → statement M
 first-named-spec =

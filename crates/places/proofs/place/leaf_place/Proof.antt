@@ -10,10 +10,10 @@ use Rattle.places.proofs.place.leaf_place.Statement.{statement}
 use Rattle.places.proofs.place.leaf_place.Tie as tie
 
 abbrev Inv-loop : tie.InvT-loop
-Inv-loop file sections classes leaf₀ left₀ leaf left = StartsOf file (sections .starts) × Accepted file × Classes file classes × PlaceIn file leaf × Comes (innermost file) left leaf (leafPlace file leaf₀)
+Inv-loop file source classes leaf₀ left₀ leaf left = StartsOf file source × Accepted file × Classes file classes × PlaceIn file leaf × Comes (innermost file) left leaf (leafPlace file leaf₀)
 
 abbrev μ-loop : tie.MeasureT-loop
-μ-loop file sections classes leaf₀ left₀ leaf left = left
+μ-loop file source classes leaf₀ left₀ leaf left = left
 
 pub leaf-place-spec : {M : Type 1} → statement M
 leaf-place-spec =

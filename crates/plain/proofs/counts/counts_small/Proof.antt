@@ -8,10 +8,10 @@ use Rattle.plain.proofs.counts.counts_small.Statement.{statement}
 use Rattle.plain.proofs.counts.counts_small.Tie as tie
 
 abbrev Inv-loop : tie.InvT-loop
-Inv-loop file sections s₀ s = (s ≤ 14) × StartsOf file (sections .starts) × Passed (λ s. leb (count file s) (mostRecords s)) s
+Inv-loop file source s₀ s = (s ≤ 14) × StartsOf file source × Passed (λ s. leb (count file s) (mostRecords s)) s
 
 abbrev μ-loop : tie.MeasureT-loop
-μ-loop file sections s₀ s = 14 - s
+μ-loop file source s₀ s = 14 - s
 
 pub counts-small-spec : {M : Type 1} → statement M
 counts-small-spec =

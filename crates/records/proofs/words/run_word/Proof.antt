@@ -9,11 +9,11 @@ use Rattle.records.proofs.words.run_word.Tie as tie
 
 -- where the record stands
 near : (c : tie.After-record-words)
-    → (getD (c .before .before .before .args .t2 .starts) (c .before .before .before .args .section) 0 ≤ 2 ^ 40)
-    × ((c .before .before .before .args .first + c .before .before .before .args .j) * c .record-words .result ≤ 2 ^ 33 * 11)
+    → (getD (c .before .before .before .before .args .source .now) (c .before .before .before .before .args .section) 0 ≤ 2 ^ 40)
+    × ((c .before .before .before .before .args .first + c .before .before .before .before .args .j) * c .record-words .result ≤ 2 ^ 33 * 11)
 near c =
-    let p = c .before .before .before .pre in
-    let a = c .before .before .before .args in
+    let p = c .before .before .before .before .pre in
+    let a = c .before .before .before .before .args in
     (start-most (p .0) (a .section) (omega arith) (omega arith), rw (c .record-words .ensures) (words-of (2 ^ 33) (a .first + a .j) (a .section) (omega arith)))
 
 pub run-word-spec : {M : Type 1} → statement M
@@ -23,7 +23,7 @@ run-word-spec =
     (λ c. search needs)
     (λ c. search needs)
     (λ c. search needs)
-    (λ c. omega (arith, start-most (c .before .before .pre .0) (c .before .before .args .section) (omega arith) (omega arith)))
+    (λ c. omega (arith, start-most (c .before .before .before .pre .0) (c .before .before .before .args .section) (omega arith) (omega arith)))
     (λ c κs. search needs)
     (λ c. omega (arith, near c))
     (λ c. omega (arith, near c))

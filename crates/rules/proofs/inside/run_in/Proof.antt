@@ -15,4 +15,4 @@ run-in-spec =
     (λ c. search needs)
     (λ c κs. search needs)
     (λ c. search needs)
-    (λ c. (cc, λ e. let a = c .before .before .args in omega (arith, leb-true (a .first + a .many) (c .count .result) e))))
+    (λ c. (cc, λ e. let a = c .before .before .before .args in omega (arith, leb-true (a .first + a .many) (c .count .result) e))))

@@ -33,4 +33,4 @@ declaration-points-spec =
     (λ c. rw (c .before .match .keys8) (rw (c .name-in4 .ensures)))
     (λ c. rw (c .before .match .keys9) (rw (c .name-in5 .ensures)))
     (λ c. rw (c .before .match .keys10) (rw (c .run-in2 .ensures .0)))
-    (λ c. let a = c .before .before .args in behind (λ k. declarationPoints (a .file .now) k (a .name) (a .start) (a .first) (a .many)) 10 (a .kind) (c .match .rest) (λ j. refl)))
+    (λ c. let a = c .before .before .before .args in behind (λ k. declarationPoints (a .file .now) k (a .name) (a .start) (a .first) (a .many)) 10 (a .kind) (c .match .rest) (λ j. refl)))

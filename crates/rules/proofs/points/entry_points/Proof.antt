@@ -24,4 +24,4 @@ entry-points-spec =
     (λ c. rw (c .before .match .keys5) (rw (c .number-in2 .ensures)))
     (λ c. rw (c .match .keys6) (refl))
     (λ c. rw (c .before .match .keys7) (rw (c .link-to-lower .ensures)))
-    (λ c. let a = c .before .before .args in behind (λ k. entryPoints (a .file .now) (a .e) k (a .a) (a .b)) 7 (a .kind) (c .match .rest) (λ j. refl)))
+    (λ c. let a = c .before .before .before .args in behind (λ k. entryPoints (a .file .now) (a .e) k (a .a) (a .b)) 7 (a .kind) (c .match .rest) (λ j. refl)))

@@ -49,4 +49,4 @@ plain-rule-spec =
     (λ c. rw (c .before .before .before .match .keys12) (rw (← c .before .before .word11 .ensures, ← c .before .word12 .ensures) (c .expression-plain .ensures)))
     (λ c. rw (c .before .match .keys13) (c .constant-words .ensures))
     (λ c. rw (c .match .keys14) (refl))
-    (λ c. let a = c .before .before .args in behind (λ k. plainRule (a .file .now) k (a .n)) 14 (a .section) (c .match .rest) (λ j. refl)))
+    (λ c. let a = c .before .before .before .args in behind (λ k. plainRule (a .file .now) k (a .n)) 14 (a .section) (c .match .rest) (λ j. refl)))

@@ -39,4 +39,4 @@ point-rule-spec =
     (λ c. rw (c .before .match .keys12) (rw (c .expression-links .ensures)))
     (λ c. rw (c .before .match .keys13) (rw (c .constant-links .ensures)))
     (λ c. rw (c .match .keys14) (refl))
-    (λ c. let a = c .before .before .args in behind (λ k. pointRule (a .file .now) k (a .n)) 14 (a .section) (c .match .rest) (λ j. refl)))
+    (λ c. let a = c .before .before .before .args in behind (λ k. pointRule (a .file .now) k (a .n)) 14 (a .section) (c .match .rest) (λ j. refl)))

@@ -8,10 +8,10 @@ use Rattle.rules.proofs.runs.run_of.Statement.{statement}
 use Rattle.rules.proofs.runs.run_of.Tie as tie
 
 abbrev Inv-loop : tie.InvT-loop
-Inv-loop file sections section rule first many j₀ j = (j ≤ many) × StartsOf file (sections .starts) × Inside file section first many × Passed (λ j. meets file rule (first + j)) j
+Inv-loop file source section rule first many j₀ j = (j ≤ many) × StartsOf file source × Inside file section first many × Passed (λ j. meets file rule (first + j)) j
 
 abbrev μ-loop : tie.MeasureT-loop
-μ-loop file sections section rule first many j₀ j = many - j
+μ-loop file source section rule first many j₀ j = many - j
 
 pub run-of-spec : {M : Type 1} → statement M
 run-of-spec =

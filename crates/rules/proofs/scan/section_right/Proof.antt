@@ -9,10 +9,10 @@ use Rattle.rules.proofs.scan.section_right.Statement.{statement}
 use Rattle.rules.proofs.scan.section_right.Tie as tie
 
 abbrev Inv-loop : tie.InvT-loop
-Inv-loop file sections scan section many n₀ n = (n ≤ many) × (many ≡ count file section) × StartsOf file (sections .starts) × Passed (ruleOf file scan section) n
+Inv-loop file source scan section many n₀ n = (n ≤ many) × (many ≡ count file section) × StartsOf file source × Passed (ruleOf file scan section) n
 
 abbrev μ-loop : tie.MeasureT-loop
-μ-loop file sections scan section many n₀ n = many - n
+μ-loop file source scan section many n₀ n = many - n
 
 pub section-right-spec : {M : Type 1} → statement M
 section-right-spec =

@@ -9,10 +9,10 @@ use Rattle.rules.proofs.scan.sections_right.Statement.{statement}
 use Rattle.rules.proofs.scan.sections_right.Tie as tie
 
 abbrev Inv-loop : tie.InvT-loop
-Inv-loop file sections scan s₀ s = (s ≤ 14) × StartsOf file (sections .starts) × Passed (λ s. every (ruleOf file scan s) (count file s)) s
+Inv-loop file source scan s₀ s = (s ≤ 14) × StartsOf file source × Passed (λ s. every (ruleOf file scan s) (count file s)) s
 
 abbrev μ-loop : tie.MeasureT-loop
-μ-loop file sections scan s₀ s = 14 - s
+μ-loop file source scan s₀ s = 14 - s
 
 pub sections-right-spec : {M : Type 1} → statement M
 sections-right-spec =

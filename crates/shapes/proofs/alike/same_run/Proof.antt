@@ -9,10 +9,10 @@ use Rattle.shapes.proofs.alike.same_run.Statement.{statement}
 use Rattle.shapes.proofs.alike.same_run.Tie as tie
 
 abbrev Inv-loop : tie.InvT-loop
-Inv-loop file sections classes listing a m b n j₀ j = (j ≤ m) × (m ≡ n) × StartsOf file (sections .starts) × Passed (λ j. sameListed file classes listing (a + j) (b + j)) j
+Inv-loop file source classes listing a m b n j₀ j = (j ≤ m) × (m ≡ n) × StartsOf file source × Passed (λ j. sameListed file classes listing (a + j) (b + j)) j
 
 abbrev μ-loop : tie.MeasureT-loop
-μ-loop file sections classes listing a m b n j₀ j = m - j
+μ-loop file source classes listing a m b n j₀ j = m - j
 
 pub same-run-spec : {M : Type 1} → statement M
 same-run-spec =

@@ -9,10 +9,10 @@ use Rattle.shapes.proofs.arrays.arrays_small.Statement.{statement}
 use Rattle.shapes.proofs.arrays.arrays_small.Tie as tie
 
 abbrev Inv-loop : tie.InvT-loop
-Inv-loop file sections many n₀ n = (n ≤ many) × (many ≡ count file shapes) × StartsOf file (sections .starts) × Passed (arraySmall file) n
+Inv-loop file source many n₀ n = (n ≤ many) × (many ≡ count file shapes) × StartsOf file source × Passed (arraySmall file) n
 
 abbrev μ-loop : tie.MeasureT-loop
-μ-loop file sections many n₀ n = many - n
+μ-loop file source many n₀ n = many - n
 
 pub arrays-small-spec : {M : Type 1} → statement M
 unfolding arraysSmall

@@ -7,10 +7,10 @@ use Rattle.shapes.proofs.arrays.elements.Statement.{statement}
 use Rattle.shapes.proofs.arrays.elements.Tie as tie
 
 abbrev Inv-loop : tie.InvT-loop
-Inv-loop file sections first many product₀ j₀ product j = (j ≤ many) × StartsOf file (sections .starts) × Counted file first j product
+Inv-loop file source first many product₀ j₀ product j = (j ≤ many) × StartsOf file source × Counted file first j product
 
 abbrev μ-loop : tie.MeasureT-loop
-μ-loop file sections first many product₀ j₀ product j = many - j
+μ-loop file source first many product₀ j₀ product j = many - j
 
 pub elements-spec : {M : Type 1} → statement M
 elements-spec =

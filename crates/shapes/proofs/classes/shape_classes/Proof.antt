@@ -16,10 +16,10 @@ use Rattle.shapes.proofs.classes.shape_classes.Statement.{statement}
 use Rattle.shapes.proofs.classes.shape_classes.Tie as tie
 
 abbrev Inv-loop : tie.InvT-loop
-Inv-loop file sections words₀ many n₀ words n = (n ≤ many) × (many ≤ length words₀) × (length words ≡ length words₀) × (many ≡ count file shapes) × StartsOf file (sections .starts) × Accepted file × Filled (shapeClass file) n words₀ words
+Inv-loop file source words₀ many n₀ words n = (n ≤ many) × (many ≤ length words₀) × (length words ≡ length words₀) × (many ≡ count file shapes) × StartsOf file source × Accepted file × Filled (shapeClass file) n words₀ words
 
 abbrev μ-loop : tie.MeasureT-loop
-μ-loop file sections words₀ many n₀ words n = many - n
+μ-loop file source words₀ many n₀ words n = many - n
 
 pub shape-classes-spec : {M : Type 1} → statement M
 shape-classes-spec =

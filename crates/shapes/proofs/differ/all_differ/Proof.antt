@@ -11,10 +11,10 @@ use Rattle.shapes.proofs.differ.all_differ.Statement.{statement}
 use Rattle.shapes.proofs.differ.all_differ.Tie as tie
 
 abbrev Inv-loop : tie.InvT-loop
-Inv-loop file sections keys many n₀ n = (n ≤ many) × StartsOf file (sections .starts) × Keyed file keys many × Passed (λ n. every (λ m. not (alike file m n)) n) n
+Inv-loop file source keys many n₀ n = (n ≤ many) × StartsOf file source × Keyed file keys many × Passed (λ n. every (λ m. not (alike file m n)) n) n
 
 abbrev μ-loop : tie.MeasureT-loop
-μ-loop file sections keys many n₀ n = many - n
+μ-loop file source keys many n₀ n = many - n
 
 pub all-differ-spec : {M : Type 1} → statement M
 all-differ-spec =

@@ -11,10 +11,10 @@ use Rattle.shapes.proofs.differ.shape_differs.Statement.{statement}
 use Rattle.shapes.proofs.differ.shape_differs.Tie as tie
 
 abbrev Inv-loop : tie.InvT-loop
-Inv-loop file sections keys n m₀ m = (m ≤ n) × StartsOf file (sections .starts) × Keyed file keys (suc n) × Passed (λ m. not (alike file m n)) m
+Inv-loop file source keys n m₀ m = (m ≤ n) × StartsOf file source × Keyed file keys (suc n) × Passed (λ m. not (alike file m n)) m
 
 abbrev μ-loop : tie.MeasureT-loop
-μ-loop file sections keys n m₀ m = n - m
+μ-loop file source keys n m₀ m = n - m
 
 pub shape-differs-spec : {M : Type 1} → statement M
 shape-differs-spec =

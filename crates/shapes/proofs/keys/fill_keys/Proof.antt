@@ -12,10 +12,10 @@ use Rattle.shapes.proofs.keys.fill_keys.Statement.{statement}
 use Rattle.shapes.proofs.keys.fill_keys.Tie as tie
 
 abbrev Inv-loop : tie.InvT-loop
-Inv-loop file sections many keys₀ n₀ keys n = (n ≤ many) × (many ≤ length keys₀) × (length keys ≡ length keys₀) × StartsOf file (sections .starts) × Filled (keyOf file) n keys₀ keys
+Inv-loop file source many keys₀ n₀ keys n = (n ≤ many) × (many ≤ length keys₀) × (length keys ≡ length keys₀) × StartsOf file source × Filled (keyOf file) n keys₀ keys
 
 abbrev μ-loop : tie.MeasureT-loop
-μ-loop file sections many keys₀ n₀ keys n = many - n
+μ-loop file source many keys₀ n₀ keys n = many - n
 
 pub fill-keys-spec : {M : Type 1} → statement M
 fill-keys-spec =

@@ -6,10 +6,10 @@ use Rattle.shapes.proofs.keys.run_sum.Statement.{statement}
 use Rattle.shapes.proofs.keys.run_sum.Tie as tie
 
 abbrev Inv-loop : tie.InvT-loop
-Inv-loop file sections section first many place sum₀ j₀ sum j = (j ≤ many) × (section < 14) × (place < 16) × StartsOf file (sections .starts) × Summed file section place first j sum
+Inv-loop file source section first many place sum₀ j₀ sum j = (j ≤ many) × (section < 14) × (place < 16) × StartsOf file source × Summed file section place first j sum
 
 abbrev μ-loop : tie.MeasureT-loop
-μ-loop file sections section first many place sum₀ j₀ sum j = many - j
+μ-loop file source section first many place sum₀ j₀ sum j = many - j
 
 pub run-sum-spec : {M : Type 1} → statement M
 run-sum-spec =

@@ -10,10 +10,10 @@ use Rattle.shapes.proofs.like.first_like.Statement.{statement}
 use Rattle.shapes.proofs.like.first_like.Tie as tie
 
 abbrev Inv-loop : tie.InvT-loop
-Inv-loop file sections classes enumerated n kind first tells m₀ m = (m ≤ n) × (kind ≡ word file shapes n 0) × (first ≡ word file shapes n 1) × (tells ≡ toldByFirst kind) × StartsOf file (sections .starts) × None (λ m. shapesLike file (sameIn classes) enumerated m n) m
+Inv-loop file source classes enumerated n kind first tells m₀ m = (m ≤ n) × (kind ≡ word file shapes n 0) × (first ≡ word file shapes n 1) × (tells ≡ toldByFirst kind) × StartsOf file source × None (λ m. shapesLike file (sameIn classes) enumerated m n) m
 
 abbrev μ-loop : tie.MeasureT-loop
-μ-loop file sections classes enumerated n kind first tells m₀ m = n - m
+μ-loop file source classes enumerated n kind first tells m₀ m = n - m
 
 pub first-like-spec : {M : Type 1} → statement M
 unfolding firstLike
