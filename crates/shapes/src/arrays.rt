@@ -36,7 +36,7 @@ fn capped(n: u64) -> u64
     MOST_ELEMENTS + 1
 }
 
-fn elements(file: &[u32], source: &[usize], first: u32, many: u32) -> u64
+pub fn elements(file: &[u32], source: &[usize], first: u32, many: u32) -> u64
     requires { ⌜ StartsOf (now file) (now source) ⌝ }
     ensures { λ r. ⌜ r ≡ min (elementsOf (now (file .entry)) first many) 65537 ⌝ }
 {
