@@ -97,28 +97,33 @@ module _ (f : List ℕ) where
         nameless = s .nameless;
       }
 
-  in-complete : (i : ℕ) (t : Tree) → Small t → OnCompleted (InPlaceOf t) (complete f i t)
+-- what holds of both trees that a slot may take holds of the one that it takes
+module _ (f : List ℕ) (Q : Tree → Type 0) (t : Tree) (signed : slotTakes 2 (head t .kind) ≡ true → Q (asSigned t)) (whole : Q (writtenParts f t)) where
+  on-complete : (i : ℕ) → OnCompleted Q (complete f i t)
   unfolding complete
-  in-complete i t s =
-      on-pick (OnCompleted (InPlaceOf t)) (slotTakes i (head t .kind)) _ left
-      (λ e. on-pick (InPlaceOf t) (eqb i 2) (asSigned t) (writtenParts f t)
-      (λ q. in-signed t (rw (eqb-true i 2 q) at e) s) (λ q. in-parts t s)) (λ e. tt)
+  on-complete i =
+      on-pick (OnCompleted Q) (slotTakes i (head t .kind)) _ left
+      (λ e. on-pick Q (eqb i 2) (asSigned t) (writtenParts f t) (λ q. signed (rw (eqb-true i 2 q) at e)) (λ q. whole)) (λ e. tt)
 
-  in-retyped : (v i : ℕ) (t : Tree) → Small t → OnCompleted (InPlaceOf t) (retyped f v i t)
+  on-retyped : (v i : ℕ) → OnCompleted Q (retyped f v i t)
   unfolding retyped
-  in-retyped v i t s =
-      on-pick (OnCompleted (InPlaceOf t)) ((eqb (initializerKind f i) 3 || eqb (initializerKind f i) 11) && eqb (word f initializers i 3) 0) _ left
-      (λ e. on-link (OnCompleted (InPlaceOf t)) (word f variables v 2) left _ tt (λ d q. in-complete _ t s)) (λ e. tt)
+  on-retyped v i =
+      on-pick (OnCompleted Q) ((eqb (initializerKind f i) 3 || eqb (initializerKind f i) 11) && eqb (word f initializers i 3) 0) _ left
+      (λ e. on-link (OnCompleted Q) (word f variables v 2) left _ tt (λ d q. on-complete _)) (λ e. tt)
 
-  pub in-completion : (v : ℕ) (t : Tree) → Small t → OnCompleted (InPlaceOf t) (completion f v (ok t))
+  pub on-completion : (v : ℕ) → OnCompleted Q (completion f v (ok t))
   unfolding completion
-  in-completion v t s =
+  on-completion v =
       let i : ℕ = word f variables v 3 in
-      first (complete f (initializerKind f i) t) (retyped f v i t) (in-complete (initializerKind f i) t s) (in-retyped v i t s)
+      first (complete f (initializerKind f i) t) (retyped f v i t) (on-complete (initializerKind f i)) (on-retyped v i)
     where
-      first : (c d : Completed) → OnCompleted (InPlaceOf t) c → OnCompleted (InPlaceOf t) d → OnCompleted (InPlaceOf t) (orRetyped c d)
+      first : (c d : Completed) → OnCompleted Q c → OnCompleted Q d → OnCompleted Q (orRetyped c d)
       first (completed i u) d g h = g
       first left d g h = h
+
+module _ (f : List ℕ) where
+  pub in-completion : (v : ℕ) (t : Tree) → Small t → OnCompleted (InPlaceOf t) (completion f v (ok t))
+  in-completion v t s = on-completion f (InPlaceOf t) t (λ e. in-signed f t e s) (in-parts f t s) v
 
   pub completion-in : (v i : ℕ) (t u : Tree) → Small t → completion f v (ok t) ≡ completed i u → InPlaceOf t u
   completion-in v i t u s e = rw e at (in-completion v t s)

@@ -4,23 +4,26 @@ use Prim.Native.Nat.{ℕ, zero, suc, _+_, _*_, _≤_}
 use native.Mathlib.Omega.{arith}
 use lib.Dec.{eqb, leb, lit≤}
 use borrow.Author.Tests.{leb-true}
-use Rattle.definition.specs.Tree.{Tree, Trees, node, tnil, tcons, head, parts, many, nodes, nodesIn, named, headed, arrayTree, structureTree, join, one, times, rest, mostNodes}
-use Rattle.definition.specs.Ask.{Result, ok, large, Ask, done, _>>=_, give, nothing, formed, gathered, andMore}
+use Rattle.definition.specs.Tree.{Tree, Trees, node, tnil, tcons, head, parts, many, nodes, nodesIn, named, headed, arrayTree, structureTree, one, times, rest, mostNodes}
+use Rattle.definition.specs.Ask.{Result, ok, large, Outcome, Ask, done, _>>=_, give, nothing, formed, gathered, andMore}
 use Rattle.definition.specs.Defaults.{onFields, onFirst, onNamed, flat, repeatedDefaults, added, copied, defaulted, field, structured}
 use Rattle.definition.specs.Sheet.{partsOf}
 use Rattle.laws.specs.Asks.{Asks, OnOk, asks-then}
 use Rattle.laws.specs.Cases.{on-pick, on-choose}
-use Rattle.laws.specs.Whole.{Good, Goods, nodes-parts, nodes-named, nodesIn-join, nodesIn-times, nodesIn-rest, good-parts, good-named, goods-one, goods-join, goods-times, goods-rest}
+use Rattle.laws.specs.Whole.{Good, Goods, nodes-parts, nodes-named, nodesIn-join, nodesIn-times, nodesIn-rest, good-parts, good-named, Lists, lists-one, lists-join, lists-times, lists-rest, goods-lists, goods-one}
 use Rattle.laws.specs.Values.{Small}
 
 -- asks only for Ps and, where each answer is a small tree, gives a Q, none, or too large
 abbrev pub Gives : {A : Type 0} → (ℕ → Type 0) → (A → Type 0) → Ask (Result A) → Type 0
 Gives P Q m = Asks P (λ d o. OnOk Small o) (OnOk Q) m
 
--- whole trees which, with so many nodes gathered already and a head over all, stay within the limit
-pub record Gathered (size : ℕ) (ts : Trees) : Type 0 where
-  pub whole : Goods ts
+-- trees of a list L which, with so many nodes gathered already and a head over all, stay within the limit
+pub record Within (L : Trees → Type 0) (size : ℕ) (ts : Trees) : Type 0 where
+  pub whole : L ts
   pub room : suc (size + nodesIn ts) ≤ mostNodes
+
+abbrev pub Gathered : ℕ → Trees → Type 0
+Gathered size ts = Within Goods size ts
 
 -- ---- trees
 pub good-array : (ts : Trees) → Goods ts → Good (arrayTree ts)
@@ -35,8 +38,11 @@ pub array-nameless : (ts : Trees) → head (arrayTree ts) .name ≡ 0
 unfolding head arrayTree headed
 array-nameless ts = refl
 
+pub within-rest : {R : Tree → Type 0} {L : Trees → Type 0} → Lists R L → (k : ℕ) (ts : Trees) → Within L 0 ts → Within L 0 (rest k ts)
+within-rest l k ts g = record { whole = lists-rest l k ts (g .whole); room = omega (arith, nodesIn-rest k ts) }
+
 pub gathered-rest : (k : ℕ) (ts : Trees) → Gathered 0 ts → Gathered 0 (rest k ts)
-gathered-rest k ts g = record { whole = goods-rest k ts (g .whole); room = omega (arith, nodesIn-rest k ts) }
+gathered-rest = within-rest goods-lists
 
 pub gathered-parts : (t : Tree) → Good t → nodes t ≤ mostNodes → Gathered 0 (parts t)
 gathered-parts t g h = record { whole = good-parts t g; room = omega (arith, nodes-parts t) }
@@ -48,6 +54,61 @@ small-named (node h ts) g n = record { few = omega (arith, nodes-named 0 (node h
 pub goods-flat : (t : Tree) → Good t → Goods (flat t)
 unfolding flat
 goods-flat t g = on-pick Goods (eqb (head t .kind) 13) (parts t) (one t) (λ e. good-parts t g) (λ e. goods-one t g)
+
+-- ---- lists whose every tree is an R, as they are gathered, whatever is asked and answered
+module _ (P : ℕ → Type 0) (W : ℕ → Outcome → Type 0) {R : Tree → Type 0} {L : Trees → Type 0} (l : Lists R L) where
+  pub within-none : (size : ℕ) → suc size ≤ mostNodes → Asks P W (OnOk (Within L size)) (give tnil)
+  unfolding nodes give
+  within-none size h = record { whole = l .none; room = omega arith }
+
+  pub within-gathered : (size : ℕ) (ts : Trees) → L ts → Asks P W (OnOk (Within L size)) (gathered size ts)
+  unfolding gathered
+  within-gathered size ts g =
+      on-choose (Asks P W (OnOk (Within L size))) (leb (suc (size + nodesIn ts)) mostNodes) (λ u. done (ok ts)) (λ u. done large)
+      (λ b. record { whole = g; room = leb-true (suc (size + nodesIn ts)) mostNodes b }) (λ b. tt)
+
+  pub within-more : (made size : ℕ) (some : Ask (Result Trees)) (more : ℕ → ℕ → Ask (Result Trees)) → Asks P W (OnOk (Within L size)) some
+      → ((m s : ℕ) → suc s ≤ mostNodes → Asks P W (OnOk (Within L s)) (more m s)) → Asks P W (OnOk (Within L size)) (andMore made size some more)
+  unfolding andMore give
+  within-more made size some more h k =
+      asks-then P W (Within L size) (Within L size) some _ h
+      (λ ts g. asks-then P W (Within L (size + nodesIn ts)) (Within L size) (more (made + many ts) (size + nodesIn ts)) _ (k _ _ (g .room))
+      (λ us r. record { whole = lists-join l ts us (g .whole) (r .whole); room = omega (arith, nodesIn-join ts us, r .room) }))
+
+  pub within-added : (places made size : ℕ) (ts : Trees) → L ts → Asks P W (OnOk (Within L size)) (added places made size ts)
+  unfolding added give nothing
+  within-added places made size ts g =
+      asks-then P W (Within L size) (Within L size) (gathered size ts) _ (within-gathered size ts g)
+      (λ us r. on-pick (Asks P W (OnOk (Within L size))) (leb (made + many us) places) (give us) nothing (λ e. r) (λ e. tt))
+
+  pub within-copied : (k : ℕ) (ts : Trees) (places made size : ℕ) → L ts → suc size ≤ mostNodes
+      → Asks P W (OnOk (Within L size)) (copied k ts places made size)
+  unfolding copied
+  within-copied zero ts places made size g h = within-none size h
+  within-copied (suc k) ts places made size g h =
+      within-more made size (added places made size ts) (copied k ts places) (within-added places made size ts g) (λ m s r. within-copied k ts places m s g r)
+
+  pub within-first : {A : Type 0} (Q : A → Type 0) (ts : Trees) (go : Tree → Trees → Ask (Result A)) → Within L 0 ts
+      → ((t : Tree) (us : Trees) → R t → nodes t ≤ mostNodes → Within L 0 us → Asks P W (OnOk Q) (go t us)) → Asks P W (OnOk Q) (onFirst ts go)
+  unfolding nodes nothing
+  within-first Q tnil go g k = tt
+  within-first Q (tcons t us) go g k =
+      k t us (l .first t us (g .whole)) (omega (arith, g .room)) (record { whole = l .others t us (g .whole); room = omega (arith, g .room) })
+
+  pub within-defaulted : (k : ℕ) (left : Trees) (places made size : ℕ) → Within L 0 left → suc size ≤ mostNodes
+      → Asks P W (OnOk (Within L size)) (defaulted k left places made size)
+  unfolding defaulted
+  within-defaulted zero left places made size g h = within-none size h
+  within-defaulted (suc k) left places made size g h =
+      within-first (Within L size) left _ g
+      (λ t us gt n gu. within-more made size (added places made size (one t)) (defaulted k us places)
+      (within-added places made size (one t) (lists-one l t gt)) (λ m s r. within-defaulted k us places m s gu r))
+
+  pub within-repeated : (k : ℕ) (ts : Trees) → L ts → Asks P W (OnOk (Within L 0)) (repeatedDefaults k ts)
+  unfolding repeatedDefaults give
+  within-repeated k ts g =
+      on-choose (Asks P W (OnOk (Within L 0))) (leb (suc (k * nodesIn ts)) mostNodes) (λ u. give (times k ts)) (λ u. done large)
+      (λ b. record { whole = lists-times l k ts g; room = omega (arith, nodesIn-times k ts, leb-true (suc (k * nodesIn ts)) mostNodes b) }) (λ b. tt)
 
 -- ---- computations
 module _ (P : ℕ → Type 0) where
@@ -64,8 +125,7 @@ module _ (P : ℕ → Type 0) where
   gives-then Q R m g h k = asks-then P (λ d o. OnOk Small o) Q R m g h k
 
   pub gives-none : (size : ℕ) → suc size ≤ mostNodes → Gives P (Gathered size) (give tnil)
-  unfolding Good nodes
-  gives-none size h = gives-give (Gathered size) tnil (record { whole = tt; room = omega arith })
+  gives-none = within-none P (λ d o. OnOk Small o) goods-lists
 
   pub gives-formed : (t : Tree) → Good t → head t .name ≡ 0 → Gives P Small (formed t)
   unfolding formed
@@ -74,48 +134,25 @@ module _ (P : ℕ → Type 0) where
       (λ b. record { few = leb-true (nodes t) mostNodes b; good = g; nameless = e }) (λ b. tt)
 
   pub gives-gathered : (size : ℕ) (ts : Trees) → Goods ts → Gives P (Gathered size) (gathered size ts)
-  unfolding gathered
-  gives-gathered size ts g =
-      on-choose (Gives P (Gathered size)) (leb (suc (size + nodesIn ts)) mostNodes) (λ u. done (ok ts)) (λ u. done large)
-      (λ b. record { whole = g; room = leb-true (suc (size + nodesIn ts)) mostNodes b }) (λ b. tt)
+  gives-gathered = within-gathered P (λ d o. OnOk Small o) goods-lists
 
   pub gives-more : (made size : ℕ) (some : Ask (Result Trees)) (more : ℕ → ℕ → Ask (Result Trees)) → Gives P (Gathered size) some
       → ((m s : ℕ) → suc s ≤ mostNodes → Gives P (Gathered s) (more m s)) → Gives P (Gathered size) (andMore made size some more)
-  unfolding andMore
-  gives-more made size some more h k =
-      gives-then (Gathered size) (Gathered size) some _ h
-      (λ ts g. gives-then (Gathered (size + nodesIn ts)) (Gathered size) (more (made + many ts) (size + nodesIn ts)) _ (k _ _ (g .room))
-      (λ us r. gives-give (Gathered size) (join ts us)
-      (record { whole = goods-join ts us (g .whole) (r .whole); room = omega (arith, nodesIn-join ts us, r .room) })))
+  gives-more = within-more P (λ d o. OnOk Small o) goods-lists
 
   pub gives-added : (places made size : ℕ) (ts : Trees) → Goods ts → Gives P (Gathered size) (added places made size ts)
-  unfolding added
-  gives-added places made size ts g =
-      gives-then (Gathered size) (Gathered size) (gathered size ts) _ (gives-gathered size ts g)
-      (λ us r. on-pick (Gives P (Gathered size)) (leb (made + many us) places) (give us) nothing
-      (λ e. gives-give (Gathered size) us r) (λ e. gives-nothing (Gathered size)))
+  gives-added = within-added P (λ d o. OnOk Small o) goods-lists
 
   pub gives-copied : (k : ℕ) (ts : Trees) (places made size : ℕ) → Goods ts → suc size ≤ mostNodes → Gives P (Gathered size) (copied k ts places made size)
-  unfolding copied
-  gives-copied zero ts places made size g h = gives-none size h
-  gives-copied (suc k) ts places made size g h =
-      gives-more made size (added places made size ts) (copied k ts places) (gives-added places made size ts g) (λ m s r. gives-copied k ts places m s g r)
+  gives-copied = within-copied P (λ d o. OnOk Small o) goods-lists
 
   pub gives-first : {A : Type 0} (Q : A → Type 0) (ts : Trees) (go : Tree → Trees → Ask (Result A)) → Gathered 0 ts
       → ((t : Tree) (us : Trees) → Good t → nodes t ≤ mostNodes → Gathered 0 us → Gives P Q (go t us)) → Gives P Q (onFirst ts go)
-  unfolding Good nodes
-  gives-first Q tnil go g k = gives-nothing Q
-  gives-first Q (tcons t us) go g k =
-      k t us (g .whole .0) (omega (arith, g .room)) (record { whole = g .whole .1; room = omega (arith, g .room) })
+  gives-first = within-first P (λ d o. OnOk Small o) goods-lists
 
   pub gives-defaulted : (k : ℕ) (left : Trees) (places made size : ℕ) → Gathered 0 left → suc size ≤ mostNodes
       → Gives P (Gathered size) (defaulted k left places made size)
-  unfolding defaulted
-  gives-defaulted zero left places made size g h = gives-none size h
-  gives-defaulted (suc k) left places made size g h =
-      gives-first (Gathered size) left _ g
-      (λ t us gt n gu. gives-more made size (added places made size (one t)) (defaulted k us places) (gives-added places made size (one t) (goods-one t gt))
-      (λ m s r. gives-defaulted k us places m s gu r))
+  gives-defaulted = within-defaulted P (λ d o. OnOk Small o) goods-lists
 
   pub gives-named : (name : ℕ) (ts : Trees) (go : Tree → Ask (Result Tree)) → Gathered 0 ts → ((t : Tree) → Small t → Gives P Small (go t))
       → Gives P Small (onNamed name ts go)
@@ -132,11 +169,7 @@ module _ (P : ℕ → Type 0) where
       on-choose (Gives P Small) (eqb (head t .kind) 14) (λ u. go (parts t)) (λ u. nothing) (λ e. k (parts t) (gathered-parts t g h)) (λ e. gives-nothing Small)
 
   pub gives-repeated : (k : ℕ) (ts : Trees) → Goods ts → Gives P (Gathered 0) (repeatedDefaults k ts)
-  unfolding repeatedDefaults
-  gives-repeated k ts g =
-      on-choose (Gives P (Gathered 0)) (leb (suc (k * nodesIn ts)) mostNodes) (λ u. give (times k ts)) (λ u. done large)
-      (λ b. gives-give (Gathered 0) (times k ts)
-      (record { whole = goods-times k ts g; room = omega (arith, nodesIn-times k ts, leb-true (suc (k * nodesIn ts)) mostNodes b) })) (λ b. tt)
+  gives-repeated = within-repeated P (λ d o. OnOk Small o) goods-lists
 
   pub gives-field : (size name : ℕ) (t : Tree) → Good t → Gives P (Gathered size) (field size name t)
   unfolding field

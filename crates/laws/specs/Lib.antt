@@ -35,6 +35,7 @@ pub mod Used
 pub mod Falling
 pub mod Completes
 pub mod Sizes
+pub mod Flat
 pub mod Decoded
 pub mod Implicit
 pub mod Depths

@@ -114,90 +114,119 @@ fits-converted f (shape.Interface name) c = tt
 fits-converted f (shape.Reference target) c = tt
 fits-converted f shape.Unknown c = tt
 
--- ---- trees
-small-constant : (c : Constant) → c .kind ≤ 12 → Small (constantTree c)
-unfolding constantTree
-small-constant c h = small-leaf (c .kind) (c .sign) (c .low) (c .high) (c .width) h
+-- ---- trees: what holds of every node without parts
+module _ (T : Tree → Type 0) (leaves : (kind sign low high width : ℕ) → kind ≤ 12 → T (leaf kind sign low high width)) where
+  leaf-constant : (c : Constant) → c .kind ≤ 12 → T (constantTree c)
+  unfolding constantTree
+  leaf-constant c h = leaves (c .kind) (c .sign) (c .low) (c .high) (c .width) h
 
-small-asTree : (r : Result Constant) → OnOk Fits r → OnOk Small (asTree r)
-unfolding asTree Fits
-small-asTree r h = result-on Fits Small r (λ c. ok (constantTree c)) h small-constant
+  leaf-asTree : (r : Result Constant) → OnOk Fits r → OnOk T (asTree r)
+  unfolding asTree Fits
+  leaf-asTree r h = result-on Fits T r (λ c. ok (constantTree c)) h leaf-constant
 
+  pub leaf-constantValue : (f : List ℕ) (s : Shape) (c : Constant) → OnOk T (constantValue f s c)
+  unfolding constantValue
+  leaf-constantValue f s c = leaf-asTree (converted f s c) (fits-converted f s c)
+
+  pub leaf-emptyString : (f : List ℕ) (length width : ℕ) → OnOk T (emptyString f length width)
+  unfolding emptyString
+  leaf-emptyString f length width = leaf-asTree (cutString f length width 0 0) (fits-cut f length width 0 0)
+
+  pub leaf-enumerated : (value qualifier : ℕ) → T (enumeratedTree value qualifier)
+  unfolding enumeratedTree
+  leaf-enumerated value qualifier = leaves 9 0 value qualifier 0 (lit≤ tt)
+
+  pub leaf-null : T nullTree
+  unfolding nullTree
+  leaf-null = leaves 10 0 0 0 0 (lit≤ tt)
+
+  pub leaf-reference : (x : ℕ) → T (referenceTree x)
+  unfolding referenceTree
+  leaf-reference x = leaves 11 0 x 0 0 (lit≤ tt)
+
+  pub leaf-expression : (x : ℕ) → T (expressionTree x)
+  unfolding expressionTree
+  leaf-expression x = leaves 12 0 x 0 0 (lit≤ tt)
+
+  pub leaf-enumeratedValue : (f : List ℕ) (s : Shape) (value qualifier : ℕ) → OnOk T (enumeratedValue f s value qualifier)
+  unfolding enumeratedValue
+  leaf-enumeratedValue f s value qualifier =
+      on-shape (OnOk T) s _ _ _ _ _ _ _ (λ a b. tt)
+      (λ first count. on-pick (OnOk T) (isMember f first count value) (ok (enumeratedTree value qualifier)) none (λ e. leaf-enumerated value qualifier) (λ e. tt))
+      (λ a b. tt) (λ e a b. tt) tt tt tt
+
+  pub leaf-expressionValue : (f : List ℕ) (s : Shape) (x : Expr) → OnOk T (expressionValue f s x)
+  unfolding expressionValue
+  leaf-expressionValue f s (Expr.constant c) = leaf-constantValue f s c
+  leaf-expressionValue f s (Expr.enumerated value qualifier) = leaf-enumeratedValue f s value qualifier
+  leaf-expressionValue f s (Expr.parentheses x) = leaf-expressionValue f s x
+  leaf-expressionValue f s (Expr.conversion n (Expr.constant c)) = leaf-constantValue f s c
+  leaf-expressionValue f s (Expr.conversion n (Expr.enumerated value qualifier)) = leaf-enumeratedValue f s value qualifier
+  leaf-expressionValue f s (Expr.conversion n (Expr.parentheses x)) = leaf-expression n
+  leaf-expressionValue f s (Expr.conversion n (Expr.conversion m x)) = leaf-expression n
+  leaf-expressionValue f s (Expr.conversion n (Expr.null m)) = leaf-expression n
+  leaf-expressionValue f s (Expr.conversion n (Expr.other m)) = leaf-expression n
+  leaf-expressionValue f s (Expr.null n) = on-pick T (isReference s) nullTree (expressionTree n) (λ e. leaf-null) (λ e. leaf-expression n)
+  leaf-expressionValue f s (Expr.other n) = leaf-expression n
+
+  -- implicit values
+  leaf-zero : (kind width : ℕ) → kind ≤ 12 → OnOk T (zeroOf kind width)
+  unfolding zeroOf constantOf
+  leaf-zero kind width h = leaf-constant (constantOf kind 0 0 0 width) h
+
+  leaf-member : (f : List ℕ) (first count default : ℕ) → OnOk T (defaultMember f first count default)
+  unfolding defaultMember
+  leaf-member f first count default = on-pick (OnOk T) (ltb default count) _ none (λ e. leaf-enumerated _ 0) (λ e. tt)
+
+  leaf-least : (c : Constant) → T (asIntegerTree c)
+  unfolding asIntegerTree constantOf
+  leaf-least c = leaf-constant (constantOf 1 (c .sign) (c .low) (c .high) 0) (lit≤ tt)
+
+  pub leaf-builtIn : (f : List ℕ) (s : Shape) → OnOk T (builtIn f s)
+  unfolding builtIn
+  leaf-builtIn f shape.Bool = leaf-zero 0 _ (lit≤ tt)
+  leaf-builtIn f (shape.Int bits) = leaf-zero 1 _ (lit≤ tt)
+  leaf-builtIn f (shape.UInt bits) = leaf-zero 1 _ (lit≤ tt)
+  leaf-builtIn f (shape.Real bits) = leaf-zero 3 _ (lit≤ tt)
+  leaf-builtIn f (shape.Bytes bits) = leaf-zero 1 _ (lit≤ tt)
+  leaf-builtIn f (shape.Time bits) = leaf-zero 4 _ (lit≤ tt)
+  leaf-builtIn f (shape.Date bits) = leaf-zero 6 _ (lit≤ tt)
+  leaf-builtIn f (shape.TimeOfDay bits) = leaf-zero 5 _ (lit≤ tt)
+  leaf-builtIn f (shape.DateAndTime bits) = leaf-zero 7 _ (lit≤ tt)
+  leaf-builtIn f (shape.String length width) = leaf-emptyString f length width
+  leaf-builtIn f (shape.Enumeration first count default underlying) = leaf-member f first count default
+  leaf-builtIn f (shape.Structure first count) = tt
+  leaf-builtIn f (shape.Array element first count) = tt
+  leaf-builtIn f (shape.Subrange base low high) = leaf-least (constantAt f low)
+  leaf-builtIn f (shape.FunctionBlock name) = tt
+  leaf-builtIn f (shape.Interface name) = tt
+  leaf-builtIn f (shape.Reference target) = leaf-null
+  leaf-builtIn f shape.Unknown = tt
+
+-- ---- they are small
 pub small-constantValue : (f : List ℕ) (s : Shape) (c : Constant) → OnOk Small (constantValue f s c)
-unfolding constantValue
-small-constantValue f s c = small-asTree (converted f s c) (fits-converted f s c)
+small-constantValue = leaf-constantValue Small small-leaf
 
 pub small-emptyString : (f : List ℕ) (length width : ℕ) → OnOk Small (emptyString f length width)
-unfolding emptyString
-small-emptyString f length width = small-asTree (cutString f length width 0 0) (fits-cut f length width 0 0)
+small-emptyString = leaf-emptyString Small small-leaf
 
 pub small-enumerated : (value qualifier : ℕ) → Small (enumeratedTree value qualifier)
-unfolding enumeratedTree
-small-enumerated value qualifier = small-leaf 9 0 value qualifier 0 (lit≤ tt)
+small-enumerated = leaf-enumerated Small small-leaf
 
 pub small-null : Small nullTree
-unfolding nullTree
-small-null = small-leaf 10 0 0 0 0 (lit≤ tt)
+small-null = leaf-null Small small-leaf
 
 pub small-reference : (x : ℕ) → Small (referenceTree x)
-unfolding referenceTree
-small-reference x = small-leaf 11 0 x 0 0 (lit≤ tt)
+small-reference = leaf-reference Small small-leaf
 
 pub small-expression : (x : ℕ) → Small (expressionTree x)
-unfolding expressionTree
-small-expression x = small-leaf 12 0 x 0 0 (lit≤ tt)
+small-expression = leaf-expression Small small-leaf
 
 pub small-enumeratedValue : (f : List ℕ) (s : Shape) (value qualifier : ℕ) → OnOk Small (enumeratedValue f s value qualifier)
-unfolding enumeratedValue
-small-enumeratedValue f s value qualifier =
-    on-shape (OnOk Small) s _ _ _ _ _ _ _ (λ a b. tt)
-    (λ first count. on-pick (OnOk Small) (isMember f first count value) (ok (enumeratedTree value qualifier)) none (λ e. small-enumerated value qualifier) (λ e. tt))
-    (λ a b. tt) (λ e a b. tt) tt tt tt
+small-enumeratedValue = leaf-enumeratedValue Small small-leaf
 
 pub small-expressionValue : (f : List ℕ) (s : Shape) (x : Expr) → OnOk Small (expressionValue f s x)
-unfolding expressionValue
-small-expressionValue f s (Expr.constant c) = small-constantValue f s c
-small-expressionValue f s (Expr.enumerated value qualifier) = small-enumeratedValue f s value qualifier
-small-expressionValue f s (Expr.parentheses x) = small-expressionValue f s x
-small-expressionValue f s (Expr.conversion n (Expr.constant c)) = small-constantValue f s c
-small-expressionValue f s (Expr.conversion n (Expr.enumerated value qualifier)) = small-enumeratedValue f s value qualifier
-small-expressionValue f s (Expr.conversion n (Expr.parentheses x)) = small-expression n
-small-expressionValue f s (Expr.conversion n (Expr.conversion m x)) = small-expression n
-small-expressionValue f s (Expr.conversion n (Expr.null m)) = small-expression n
-small-expressionValue f s (Expr.conversion n (Expr.other m)) = small-expression n
-small-expressionValue f s (Expr.null n) = on-pick Small (isReference s) nullTree (expressionTree n) (λ e. small-null) (λ e. small-expression n)
-small-expressionValue f s (Expr.other n) = small-expression n
-
--- ---- implicit values
-small-zero : (kind width : ℕ) → kind ≤ 12 → OnOk Small (zeroOf kind width)
-unfolding zeroOf constantOf
-small-zero kind width h = small-constant (constantOf kind 0 0 0 width) h
-
-small-member : (f : List ℕ) (first count default : ℕ) → OnOk Small (defaultMember f first count default)
-unfolding defaultMember
-small-member f first count default = on-pick (OnOk Small) (ltb default count) _ none (λ e. small-enumerated _ 0) (λ e. tt)
-
-small-least : (c : Constant) → Small (asIntegerTree c)
-unfolding asIntegerTree constantOf
-small-least c = small-constant (constantOf 1 (c .sign) (c .low) (c .high) 0) (lit≤ tt)
+small-expressionValue = leaf-expressionValue Small small-leaf
 
 pub small-builtIn : (f : List ℕ) (s : Shape) → OnOk Small (builtIn f s)
-unfolding builtIn
-small-builtIn f shape.Bool = small-zero 0 _ (lit≤ tt)
-small-builtIn f (shape.Int bits) = small-zero 1 _ (lit≤ tt)
-small-builtIn f (shape.UInt bits) = small-zero 1 _ (lit≤ tt)
-small-builtIn f (shape.Real bits) = small-zero 3 _ (lit≤ tt)
-small-builtIn f (shape.Bytes bits) = small-zero 1 _ (lit≤ tt)
-small-builtIn f (shape.Time bits) = small-zero 4 _ (lit≤ tt)
-small-builtIn f (shape.Date bits) = small-zero 6 _ (lit≤ tt)
-small-builtIn f (shape.TimeOfDay bits) = small-zero 5 _ (lit≤ tt)
-small-builtIn f (shape.DateAndTime bits) = small-zero 7 _ (lit≤ tt)
-small-builtIn f (shape.String length width) = small-emptyString f length width
-small-builtIn f (shape.Enumeration first count default underlying) = small-member f first count default
-small-builtIn f (shape.Structure first count) = tt
-small-builtIn f (shape.Array element first count) = tt
-small-builtIn f (shape.Subrange base low high) = small-least (constantAt f low)
-small-builtIn f (shape.FunctionBlock name) = tt
-small-builtIn f (shape.Interface name) = tt
-small-builtIn f (shape.Reference target) = small-null
-small-builtIn f shape.Unknown = tt
+small-builtIn = leaf-builtIn Small small-leaf

@@ -134,35 +134,66 @@ pub good-named : (name : ℕ) (t : Tree) → Good t → Good (named name t)
 unfolding Good named
 good-named name (node h ts) g = g
 
+-- ---- lists of trees whose every tree is an R
+pub record Lists (R : Tree → Type 0) (L : Trees → Type 0) : Type 0 where
+  pub none : L tnil
+  pub both : (t : Tree) (ts : Trees) → R t → L ts → L (tcons t ts)
+  pub first : (t : Tree) (ts : Trees) → L (tcons t ts) → R t
+  pub others : (t : Tree) (ts : Trees) → L (tcons t ts) → L ts
+
+module _ {R : Tree → Type 0} {L : Trees → Type 0} (l : Lists R L) where
+  pub lists-one : (t : Tree) → R t → L (one t)
+  unfolding one
+  lists-one t h = l .both t tnil h (l .none)
+
+  pub lists-join : (ts us : Trees) → L ts → L us → L (join ts us)
+  unfolding join
+  lists-join tnil us g h = h
+  lists-join (tcons t ts) us g h = l .both t (join ts us) (l .first t ts g) (lists-join ts us (l .others t ts g) h)
+
+  pub lists-times : (k : ℕ) (ts : Trees) → L ts → L (times k ts)
+  unfolding times
+  lists-times zero ts g = l .none
+  lists-times (suc k) ts g = lists-join ts (times k ts) g (lists-times k ts g)
+
+  pub lists-rest : (k : ℕ) (ts : Trees) → L ts → L (rest k ts)
+  unfolding rest
+  lists-rest zero ts g = g
+  lists-rest (suc k) tnil g = g
+  lists-rest (suc k) (tcons t ts) g = lists-rest k ts (l .others t ts g)
+
+  pub lists-filled : (ts us : Trees) → L ts → L us → L (filled ts us)
+  unfolding filled
+  lists-filled ts us g h = lists-join us (rest (many us) ts) h (lists-rest (many us) ts g)
+
+  pub lists-replaced : (name : ℕ) (u : Tree) (ts : Trees) → R u → L ts → L (replaced name u ts)
+  unfolding replaced
+  lists-replaced name u tnil h g = g
+  lists-replaced name u (tcons t ts) h g =
+      on-pick L (eqb (head t .name) name) (tcons u ts) (tcons t (replaced name u ts)) (λ e. l .both u ts h (l .others t ts g))
+      (λ e. l .both t (replaced name u ts) (l .first t ts g) (lists-replaced name u ts h (l .others t ts g)))
+
+pub goods-lists : Lists Good Goods
+unfolding Good
+goods-lists = record { none = tt; both = λ t ts g h. (g, h); first = λ t ts g. g .0; others = λ t ts g. g .1 }
+
 pub goods-one : (t : Tree) → Good t → Goods (one t)
-unfolding Good one
-goods-one t g = (g, tt)
+goods-one = lists-one goods-lists
 
 pub goods-join : (ts us : Trees) → Goods ts → Goods us → Goods (join ts us)
-unfolding Good join
-goods-join tnil us g h = h
-goods-join (tcons t ts) us g h = (g .0, goods-join ts us (g .1) h)
+goods-join = lists-join goods-lists
 
 pub goods-times : (k : ℕ) (ts : Trees) → Goods ts → Goods (times k ts)
-unfolding Good times
-goods-times zero ts g = tt
-goods-times (suc k) ts g = goods-join ts (times k ts) g (goods-times k ts g)
+goods-times = lists-times goods-lists
 
 pub goods-rest : (k : ℕ) (ts : Trees) → Goods ts → Goods (rest k ts)
-unfolding Good rest
-goods-rest zero ts g = g
-goods-rest (suc k) tnil g = tt
-goods-rest (suc k) (tcons t ts) g = goods-rest k ts (g .1)
+goods-rest = lists-rest goods-lists
 
 pub goods-filled : (ts us : Trees) → Goods ts → Goods us → Goods (filled ts us)
-unfolding filled
-goods-filled ts us g h = goods-join us (rest (many us) ts) h (goods-rest (many us) ts g)
+goods-filled = lists-filled goods-lists
 
 pub goods-replaced : (name : ℕ) (u : Tree) (ts : Trees) → Good u → Goods ts → Goods (replaced name u ts)
-unfolding Good replaced
-goods-replaced name u tnil h g = tt
-goods-replaced name u (tcons t ts) h g =
-    on-pick Goods (eqb (head t .name) name) (tcons u ts) (tcons t (replaced name u ts)) (λ e. (h, g .1)) (λ e. (g .0, goods-replaced name u ts h (g .1)))
+goods-replaced = lists-replaced goods-lists
 
 pub goods-assigned : (name : ℕ) (t : Tree) (ts : Trees) → Good t → Goods ts → Goods (assigned name t ts)
 unfolding assigned
