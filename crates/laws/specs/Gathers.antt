@@ -1,59 +1,62 @@
--- Lists of trees as they are gathered under a head: whole, and within the limit of refusal 8. Assumes nothing.
+-- What a pass over the definition keeps of every tree, for example that it is whole; and lists of trees as they are gathered under a head, within the limit of refusal 8.
+-- Assumes nothing.
 use mathlib.Core.Path.{_≡_, refl}
+use mathlib.Core.Bool.{true}
 use Prim.Native.Nat.{ℕ, zero, suc, _+_, _*_, _≤_}
 use native.Mathlib.Omega.{arith}
 use lib.Dec.{eqb, leb, lit≤}
 use borrow.Author.Tests.{leb-true}
-use Rattle.definition.specs.Tree.{Tree, Trees, node, tnil, tcons, head, parts, many, nodes, nodesIn, named, headed, arrayTree, structureTree, one, times, rest, mostNodes}
-use Rattle.definition.specs.Ask.{Result, ok, large, Outcome, Ask, done, _>>=_, give, nothing, formed, gathered, andMore}
+use Rattle.definition.specs.Tree.{Tree, Trees, leaf, node, tnil, tcons, head, parts, many, nodes, nodesIn, named, headed, arrayTree, structureTree, one, times, rest, mostNodes}
+use Rattle.definition.specs.Ask.{Result, ok, none, large, Outcome, Ask, done, _>>=_, give, nothing, formed, gathered, andMore}
 use Rattle.definition.specs.Defaults.{onFields, onFirst, onNamed, flat, repeatedDefaults, added, copied, defaulted, field, structured}
 use Rattle.definition.specs.Sheet.{partsOf}
-use Rattle.laws.specs.Asks.{Asks, OnOk, asks-then}
+use Rattle.laws.specs.Asks.{Asks, OnOk, asks-map, asks-then}
 use Rattle.laws.specs.Cases.{on-pick, on-choose}
 use Rattle.laws.specs.Whole.{Good, Goods, nodes-parts, nodes-named, nodesIn-join, nodesIn-times, nodesIn-rest, good-parts, good-named, Lists, lists-one, lists-join, lists-times, lists-rest, goods-lists, goods-one}
-use Rattle.laws.specs.Values.{Small}
+use Rattle.laws.specs.Values.{Sized, Small, good-leaf, sized-leaf}
 
--- asks only for Ps and, where each answer is a small tree, gives a Q, none, or too large
-abbrev pub Gives : {A : Type 0} → (ℕ → Type 0) → (A → Type 0) → Ask (Result A) → Type 0
-Gives P Q m = Asks P (λ d o. OnOk Small o) (OnOk Q) m
+-- what is kept: of the value of a place, of an array's entry, of a structure's field, of lists of entries and of lists of fields
+pub record Kept : Type 1 where
+  pub Of : Tree → Type 0
+  pub Entry : Tree → Type 0
+  pub Field : Tree → Type 0
+  pub EntryList : Trees → Type 0
+  pub FieldList : Trees → Type 0
+  pub entries : Lists Entry EntryList
+  pub fields : Lists Field FieldList
+  pub leaf : (kind sign low high width : ℕ) → kind ≤ 12 → Entry (leaf kind sign low high width)
+  pub structure : (ts : Trees) → FieldList ts → Entry (structureTree ts)
+  pub array : (ts : Trees) → EntryList ts → Of (arrayTree ts)
+  pub entry : (t : Tree) → Entry t → Of t
+  pub field : (name : ℕ) (t : Tree) → Of t → Field (named name t)
+  pub alone : (t : Tree) → Field t → Of (named 0 t)
+  pub parts : (t : Tree) → eqb (head t .kind) 14 ≡ true → Of t → FieldList (parts t)
+  pub flat : (t : Tree) → Of t → EntryList (flat t)
+
+-- the value of a place, and one that an array may list
+abbrev pub Value : Kept → Tree → Type 0
+Value K t = Sized (K .Of) t
+
+abbrev pub Listed : Kept → Tree → Type 0
+Listed K t = Sized (K .Entry) t
+
+-- asks only for Ps and, where each answer is a value, gives a Q, none, or too large
+abbrev pub Makes : {A : Type 0} → Kept → (ℕ → Type 0) → (A → Type 0) → Ask (Result A) → Type 0
+Makes K P Q m = Asks P (λ d o. OnOk (Value K) o) (OnOk Q) m
 
 -- trees of a list L which, with so many nodes gathered already and a head over all, stay within the limit
 pub record Within (L : Trees → Type 0) (size : ℕ) (ts : Trees) : Type 0 where
   pub whole : L ts
   pub room : suc (size + nodesIn ts) ≤ mostNodes
 
-abbrev pub Gathered : ℕ → Trees → Type 0
-Gathered size ts = Within Goods size ts
+abbrev pub Entries : Kept → ℕ → Trees → Type 0
+Entries K size ts = Within (K .EntryList) size ts
 
--- ---- trees
-pub good-array : (ts : Trees) → Goods ts → Good (arrayTree ts)
-unfolding Good arrayTree headed partsOf
-good-array ts g = (lit≤ tt, refl, g)
-
-pub small-structure : (ts : Trees) → Gathered 0 ts → Small (structureTree ts)
-unfolding Good structureTree headed partsOf nodes head
-small-structure ts g = record { few = omega arith; good = (lit≤ tt, refl, g .whole); nameless = refl }
-
-pub array-nameless : (ts : Trees) → head (arrayTree ts) .name ≡ 0
-unfolding head arrayTree headed
-array-nameless ts = refl
+abbrev pub Fields : Kept → ℕ → Trees → Type 0
+Fields K size ts = Within (K .FieldList) size ts
 
 pub within-rest : {R : Tree → Type 0} {L : Trees → Type 0} → Lists R L → (k : ℕ) (ts : Trees) → Within L 0 ts → Within L 0 (rest k ts)
 within-rest l k ts g = record { whole = lists-rest l k ts (g .whole); room = omega (arith, nodesIn-rest k ts) }
-
-pub gathered-rest : (k : ℕ) (ts : Trees) → Gathered 0 ts → Gathered 0 (rest k ts)
-gathered-rest = within-rest goods-lists
-
-pub gathered-parts : (t : Tree) → Good t → nodes t ≤ mostNodes → Gathered 0 (parts t)
-gathered-parts t g h = record { whole = good-parts t g; room = omega (arith, nodes-parts t) }
-
-pub small-named : (t : Tree) → Good t → nodes t ≤ mostNodes → Small (named 0 t)
-unfolding named head
-small-named (node h ts) g n = record { few = omega (arith, nodes-named 0 (node h ts)); good = good-named 0 (node h ts) g; nameless = refl }
-
-pub goods-flat : (t : Tree) → Good t → Goods (flat t)
-unfolding flat
-goods-flat t g = on-pick Goods (eqb (head t .kind) 13) (parts t) (one t) (λ e. good-parts t g) (λ e. goods-one t g)
 
 -- ---- lists whose every tree is an R, as they are gathered, whatever is asked and answered
 module _ (P : ℕ → Type 0) (W : ℕ → Outcome → Type 0) {R : Tree → Type 0} {L : Trees → Type 0} (l : Lists R L) where
@@ -111,71 +114,112 @@ module _ (P : ℕ → Type 0) (W : ℕ → Outcome → Type 0) {R : Tree → Typ
       (λ b. record { whole = lists-times l k ts g; room = omega (arith, nodesIn-times k ts, leb-true (suc (k * nodesIn ts)) mostNodes b) }) (λ b. tt)
 
 -- ---- computations
-module _ (P : ℕ → Type 0) where
-  pub gives-nothing : {A : Type 0} (Q : A → Type 0) → Gives P Q nothing
+module _ (K : Kept) where
+  -- what a constant, an enumerated value or an expression gives
+  pub value-leaf : (kind sign low high width : ℕ) → kind ≤ 12 → Value K (leaf kind sign low high width)
+  value-leaf kind sign low high width h = sized-leaf (K .Of) kind sign low high width (K .entry _ (K .leaf kind sign low high width h))
+
+  pub entry-leaf : (kind sign low high width : ℕ) → kind ≤ 12 → Listed K (leaf kind sign low high width)
+  entry-leaf kind sign low high width h = sized-leaf (K .Entry) kind sign low high width (K .leaf kind sign low high width h)
+
+nameless-named : (t : Tree) → head (named 0 t) .name ≡ 0
+unfolding head named
+nameless-named (node h ts) = refl
+
+module _ (K : Kept) (P : ℕ → Type 0) where
+  pub gives-nothing : {A : Type 0} (Q : A → Type 0) → Makes K P Q nothing
   unfolding nothing
   gives-nothing Q = tt
 
-  pub gives-give : {A : Type 0} (Q : A → Type 0) (a : A) → Q a → Gives P Q (give a)
+  pub gives-give : {A : Type 0} (Q : A → Type 0) (a : A) → Q a → Makes K P Q (give a)
   unfolding give
   gives-give Q a h = h
 
   pub gives-then : {A B : Type 0} (Q : A → Type 0) (R : B → Type 0) (m : Ask (Result A)) (g : A → Ask (Result B))
-      → Gives P Q m → ((a : A) → Q a → Gives P R (g a)) → Gives P R (m >>= g)
-  gives-then Q R m g h k = asks-then P (λ d o. OnOk Small o) Q R m g h k
+      → Makes K P Q m → ((a : A) → Q a → Makes K P R (g a)) → Makes K P R (m >>= g)
+  gives-then Q R m g h k = asks-then P (λ d o. OnOk (Value K) o) Q R m g h k
 
-  pub gives-none : (size : ℕ) → suc size ≤ mostNodes → Gives P (Gathered size) (give tnil)
-  gives-none = within-none P (λ d o. OnOk Small o) goods-lists
+  -- what an array may list is a value
+  pub gives-value : (m : Ask Outcome) → Makes K P (Listed K) m → Makes K P (Value K) m
+  gives-value m h = asks-map P P _ _ (OnOk (Listed K)) (OnOk (Value K)) (λ d p. p) (λ d o w. w) go m h
+    where
+      go : (o : Outcome) → OnOk (Listed K) o → OnOk (Value K) o
+      go (ok t) g = record { few = g .few; good = K .entry t (g .good); nameless = g .nameless }
+      go none g = tt
+      go large g = tt
 
-  pub gives-formed : (t : Tree) → Good t → head t .name ≡ 0 → Gives P Small (formed t)
-  unfolding formed
-  gives-formed t g e =
-      on-choose (Gives P Small) (leb (nodes t) mostNodes) (λ u. done (ok t)) (λ u. done large)
-      (λ b. record { few = leb-true (nodes t) mostNodes b; good = g; nameless = e }) (λ b. tt)
+  pub gives-formed : (ts : Trees) → K .EntryList ts → Makes K P (Value K) (formed (arrayTree ts))
+  unfolding formed head arrayTree headed
+  gives-formed ts g =
+      on-choose (Makes K P (Value K)) (leb (nodes (arrayTree ts)) mostNodes) _ _
+      (λ b. record { few = leb-true (nodes (arrayTree ts)) mostNodes b; good = K .array ts g; nameless = refl }) (λ b. tt)
 
-  pub gives-gathered : (size : ℕ) (ts : Trees) → Goods ts → Gives P (Gathered size) (gathered size ts)
-  gives-gathered = within-gathered P (λ d o. OnOk Small o) goods-lists
+  pub gives-structure : (ts : Trees) → Fields K 0 ts → Makes K P (Listed K) (give (structureTree ts))
+  unfolding give structureTree headed nodes head
+  gives-structure ts g = record { few = omega arith; good = K .structure ts (g .whole); nameless = refl }
 
-  pub gives-more : (made size : ℕ) (some : Ask (Result Trees)) (more : ℕ → ℕ → Ask (Result Trees)) → Gives P (Gathered size) some
-      → ((m s : ℕ) → suc s ≤ mostNodes → Gives P (Gathered s) (more m s)) → Gives P (Gathered size) (andMore made size some more)
-  gives-more = within-more P (λ d o. OnOk Small o) goods-lists
+  pub gives-added : (m : Ask Outcome) (places made size : ℕ) → Makes K P (Listed K) m → Makes K P (Entries K size) (m >>= λ t. added places made size (one t))
+  gives-added m places made size h =
+      gives-then (Listed K) (Entries K size) m _ h
+      (λ t g. within-added P _ (K .entries) places made size (one t) (lists-one (K .entries) t (g .good)))
 
-  pub gives-added : (places made size : ℕ) (ts : Trees) → Goods ts → Gives P (Gathered size) (added places made size ts)
-  gives-added = within-added P (λ d o. OnOk Small o) goods-lists
+  pub gives-named : (name : ℕ) (ts : Trees) (Q : Tree → Type 0) (go : Tree → Ask Outcome) → Fields K 0 ts → ((t : Tree) → Value K t → Makes K P Q (go t))
+      → Makes K P Q (onNamed name ts go)
+  unfolding onNamed nodes
+  gives-named name tnil Q go g k = gives-nothing Q
+  gives-named name (tcons t us) Q go g k =
+      on-choose (Makes K P Q) (eqb (head t .name) name) (λ u. go (named 0 t)) (λ u. onNamed name us go)
+      (λ e. k (named 0 t) (record { few = omega (arith, g .room, nodes-named 0 t); good = K .alone t (K .fields .first t us (g .whole)); nameless = nameless-named t }))
+      (λ e. gives-named name us Q go (record { whole = K .fields .others t us (g .whole); room = omega (arith, g .room) }) k)
 
-  pub gives-copied : (k : ℕ) (ts : Trees) (places made size : ℕ) → Goods ts → suc size ≤ mostNodes → Gives P (Gathered size) (copied k ts places made size)
-  gives-copied = within-copied P (λ d o. OnOk Small o) goods-lists
+  pub gives-fields : (t : Tree) (Q : Tree → Type 0) (go : Trees → Ask Outcome) → K .Of t → nodes t ≤ mostNodes
+      → ((ts : Trees) → Fields K 0 ts → Makes K P Q (go ts)) → Makes K P Q (onFields t go)
+  gives-fields t Q go g h k =
+      on-choose (Makes K P Q) (eqb (head t .kind) 14) (λ u. go (parts t)) (λ u. nothing)
+      (λ e. k (parts t) (record { whole = K .parts t e g; room = omega (arith, nodes-parts t) })) (λ e. gives-nothing Q)
 
-  pub gives-first : {A : Type 0} (Q : A → Type 0) (ts : Trees) (go : Tree → Trees → Ask (Result A)) → Gathered 0 ts
-      → ((t : Tree) (us : Trees) → Good t → nodes t ≤ mostNodes → Gathered 0 us → Gives P Q (go t us)) → Gives P Q (onFirst ts go)
-  gives-first = within-first P (λ d o. OnOk Small o) goods-lists
-
-  pub gives-defaulted : (k : ℕ) (left : Trees) (places made size : ℕ) → Gathered 0 left → suc size ≤ mostNodes
-      → Gives P (Gathered size) (defaulted k left places made size)
-  gives-defaulted = within-defaulted P (λ d o. OnOk Small o) goods-lists
-
-  pub gives-named : (name : ℕ) (ts : Trees) (go : Tree → Ask (Result Tree)) → Gathered 0 ts → ((t : Tree) → Small t → Gives P Small (go t))
-      → Gives P Small (onNamed name ts go)
-  unfolding onNamed Good nodes
-  gives-named name tnil go g k = gives-nothing Small
-  gives-named name (tcons t us) go g k =
-      on-choose (Gives P Small) (eqb (head t .name) name) (λ u. go (named 0 t)) (λ u. onNamed name us go)
-      (λ e. k (named 0 t) (small-named t (g .whole .0) (omega (arith, g .room))))
-      (λ e. gives-named name us go (record { whole = g .whole .1; room = omega (arith, g .room) }) k)
-
-  pub gives-fields : (t : Tree) (go : Trees → Ask (Result Tree)) → Good t → nodes t ≤ mostNodes → ((ts : Trees) → Gathered 0 ts → Gives P Small (go ts))
-      → Gives P Small (onFields t go)
-  gives-fields t go g h k =
-      on-choose (Gives P Small) (eqb (head t .kind) 14) (λ u. go (parts t)) (λ u. nothing) (λ e. k (parts t) (gathered-parts t g h)) (λ e. gives-nothing Small)
-
-  pub gives-repeated : (k : ℕ) (ts : Trees) → Goods ts → Gives P (Gathered 0) (repeatedDefaults k ts)
-  gives-repeated = within-repeated P (λ d o. OnOk Small o) goods-lists
-
-  pub gives-field : (size name : ℕ) (t : Tree) → Good t → Gives P (Gathered size) (field size name t)
+  pub gives-field : (size name : ℕ) (t : Tree) → K .Of t → Makes K P (Fields K size) (field size name t)
   unfolding field
-  gives-field size name t g = gives-gathered size (one (named name t)) (goods-one (named name t) (good-named name t g))
+  gives-field size name t g = within-gathered P _ (K .fields) size (one (named name t)) (lists-one (K .fields) (named name t) (K .field name t g))
 
-  pub gives-structured : (fields : ℕ → ℕ → Ask (Result Trees)) → Gives P (Gathered 0) (fields 0 0) → Gives P Small (structured fields)
+  pub gives-structured : (fields : ℕ → ℕ → Ask (Result Trees)) → Makes K P (Fields K 0) (fields 0 0) → Makes K P (Value K) (structured fields)
   unfolding structured
   gives-structured fields h =
-      gives-then (Gathered 0) Small (fields 0 0) _ h (λ ts g. gives-give Small (structureTree ts) (small-structure ts g))
+      gives-then (Fields K 0) (Value K) (fields 0 0) _ h (λ ts g. gives-value (give (structureTree ts)) (gives-structure ts g))
+
+-- ---- kept: that every tree is whole
+-- asks only for Ps and, where each answer is a small tree, gives a Q, none, or too large
+abbrev pub Gives : {A : Type 0} → (ℕ → Type 0) → (A → Type 0) → Ask (Result A) → Type 0
+Gives P Q m = Asks P (λ d o. OnOk Small o) (OnOk Q) m
+
+pub good-array : (ts : Trees) → Goods ts → Good (arrayTree ts)
+unfolding Good arrayTree headed partsOf
+good-array ts g = (lit≤ tt, refl, g)
+
+pub good-structure : (ts : Trees) → Goods ts → Good (structureTree ts)
+unfolding Good structureTree headed partsOf
+good-structure ts g = (lit≤ tt, refl, g)
+
+pub goods-flat : (t : Tree) → Good t → Goods (flat t)
+unfolding flat
+goods-flat t g = on-pick Goods (eqb (head t .kind) 13) (parts t) (one t) (λ e. good-parts t g) (λ e. goods-one t g)
+
+abbrev pub wholes : Kept
+wholes =
+    record {
+      Of = Good;
+      Entry = Good;
+      Field = Good;
+      EntryList = Goods;
+      FieldList = Goods;
+      entries = goods-lists;
+      fields = goods-lists;
+      leaf = good-leaf;
+      structure = good-structure;
+      array = good-array;
+      entry = λ t g. g;
+      field = good-named;
+      alone = good-named 0;
+      parts = λ t e. good-parts t;
+      flat = goods-flat;
+    }

@@ -22,20 +22,27 @@ use Rattle.laws.specs.Asks.{OnOk}
 use Rattle.laws.specs.Cases.{both, either, on-pick, on-shape}
 use Rattle.laws.specs.Whole.{Good}
 
--- a tree that a place may start with
-pub record Small (t : Tree) : Type 0 where
+-- a tree that a place may start with: an X with few nodes and no name
+pub record Sized (X : Tree → Type 0) (t : Tree) : Type 0 where
   pub few : nodes t ≤ mostNodes
-  pub good : Good t
+  pub good : X t
   pub nameless : head t .name ≡ 0
+
+abbrev pub Small : Tree → Type 0
+Small t = Sized Good t
 
 -- kinds up to 12 have no parts
 pub parts-none : (kind low : ℕ) → kind ≤ 12 → partsOf kind low ≡ 0
 unfolding partsOf
 parts-none kind low h = rw (lt-ltb kind 13 (omega arith))
 
-pub small-leaf : (kind sign low high width : ℕ) → kind ≤ 12 → Small (leaf kind sign low high width)
-unfolding leaf nodes Good many head
-small-leaf kind sign low high width h = record { few = lit≤ tt; good = (omega arith, rw (parts-none kind low h), tt); nameless = refl }
+pub good-leaf : (kind sign low high width : ℕ) → kind ≤ 12 → Good (leaf kind sign low high width)
+unfolding leaf Good many
+good-leaf kind sign low high width h = (omega arith, rw (parts-none kind low h), tt)
+
+pub sized-leaf : (X : Tree → Type 0) (kind sign low high width : ℕ) → X (leaf kind sign low high width) → Sized X (leaf kind sign low high width)
+unfolding leaf nodes head
+sized-leaf X kind sign low high width h = record { few = lit≤ tt; good = h; nameless = refl }
 
 -- ---- constants
 -- a constant of a kind that a node may have
@@ -202,31 +209,3 @@ module _ (T : Tree → Type 0) (leaves : (kind sign low high width : ℕ) → ki
   leaf-builtIn f (shape.Interface name) = tt
   leaf-builtIn f (shape.Reference target) = leaf-null
   leaf-builtIn f shape.Unknown = tt
-
--- ---- they are small
-pub small-constantValue : (f : List ℕ) (s : Shape) (c : Constant) → OnOk Small (constantValue f s c)
-small-constantValue = leaf-constantValue Small small-leaf
-
-pub small-emptyString : (f : List ℕ) (length width : ℕ) → OnOk Small (emptyString f length width)
-small-emptyString = leaf-emptyString Small small-leaf
-
-pub small-enumerated : (value qualifier : ℕ) → Small (enumeratedTree value qualifier)
-small-enumerated = leaf-enumerated Small small-leaf
-
-pub small-null : Small nullTree
-small-null = leaf-null Small small-leaf
-
-pub small-reference : (x : ℕ) → Small (referenceTree x)
-small-reference = leaf-reference Small small-leaf
-
-pub small-expression : (x : ℕ) → Small (expressionTree x)
-small-expression = leaf-expression Small small-leaf
-
-pub small-enumeratedValue : (f : List ℕ) (s : Shape) (value qualifier : ℕ) → OnOk Small (enumeratedValue f s value qualifier)
-small-enumeratedValue = leaf-enumeratedValue Small small-leaf
-
-pub small-expressionValue : (f : List ℕ) (s : Shape) (x : Expr) → OnOk Small (expressionValue f s x)
-small-expressionValue = leaf-expressionValue Small small-leaf
-
-pub small-builtIn : (f : List ℕ) (s : Shape) → OnOk Small (builtIn f s)
-small-builtIn = leaf-builtIn Small small-leaf
