@@ -16,6 +16,7 @@ use Rattle.laws.specs.Accepted.{Accepted}
 use Rattle.laws.specs.Used.{IsType, leads-inside}
 use Rattle.laws.specs.Values.{Small}
 use Rattle.laws.specs.Gathers.{Gathered}
+use Rattle.laws.specs.Gathers.{wholes}
 use Rattle.laws.specs.Starts.{gives-elements, gives-default}
 use Rattle.lines.proofs.Memories.{remembers-small}
 use Rattle.places.specs.Inside.{PlaceIn}
@@ -40,13 +41,13 @@ module _ {f : List ℕ} (a : Accepted f) {known store : List ℕ} {M : Memo} (m 
   pub default-small : (t : Tree) → peek M (defaultOf f place) ≡ got (ok t) → Small t
   default-small t e =
       peek-to (IsType f) (λ d o. OnOk Small o) (OnOk Small) M (λ d o p q. remembers-small (m .remembers) d o (omega (arith, m .all)) q)
-      (defaultOf f place) (gives-default f (IsType f) (IsType f) (leads-inside f a) place (i .types)) (ok t) e
+      (defaultOf f place) (gives-default wholes f (IsType f) (IsType f) (leads-inside f a) place (i .types)) (ok t) e
 
   -- and so are the values of an array's elements, under their head
   pub elements-gathered : (ts : Trees) → peek M (elementDefaults f (defaultOf f) place) ≡ got (ok ts) → Gathered 0 ts
   elements-gathered ts e =
       peek-to (IsType f) (λ d o. OnOk Small o) (OnOk (Gathered 0)) M (λ d o p q. remembers-small (m .remembers) d o (omega (arith, m .all)) q)
-      (elementDefaults f (defaultOf f) place) (gives-elements f (IsType f) (IsType f) (leads-inside f a) (defaultOf f) (gives-default f (IsType f) (IsType f) (leads-inside f a)) place (i .types)) (ok ts) e
+      (elementDefaults f (defaultOf f) place) (gives-elements wholes f (IsType f) (IsType f) (leads-inside f a) (defaultOf f) (gives-default wholes f (IsType f) (IsType f) (leads-inside f a)) place (i .types)) (ok ts) e
 
   pub elements-small : (ts : Trees) → peek M (elementDefaults f (defaultOf f) place) ≡ got (ok ts) → suc (nodesIn ts) ≤ mostNodes
   elements-small ts e = omega (arith, elements-gathered ts e .room)

@@ -223,3 +223,21 @@ wholes =
       parts = λ t e. good-parts t;
       flat = goods-flat;
     }
+
+-- ---- whole trees under a head, by the names that code has for them
+abbrev pub Gathered : ℕ → Trees → Type 0
+Gathered = Within Goods
+
+pub gathered-rest : (k : ℕ) (ts : Trees) → Gathered 0 ts → Gathered 0 (rest k ts)
+gathered-rest = within-rest goods-lists
+
+pub gathered-parts : (t : Tree) → Good t → nodes t ≤ mostNodes → Gathered 0 (parts t)
+gathered-parts t g h = record { whole = good-parts t g; room = omega (arith, nodes-parts t) }
+
+pub array-nameless : (ts : Trees) → head (arrayTree ts) .name ≡ 0
+unfolding head arrayTree headed
+array-nameless ts = refl
+
+pub small-structure : (ts : Trees) → Gathered 0 ts → Small (structureTree ts)
+unfolding structureTree headed nodes head
+small-structure ts g = record { few = omega arith; good = good-structure ts (g .whole); nameless = refl }

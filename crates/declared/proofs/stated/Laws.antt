@@ -21,6 +21,7 @@ use Rattle.laws.specs.Accepted.{Accepted}
 use Rattle.laws.specs.Links.{Link, link-to}
 use Rattle.laws.specs.Used.{IsType}
 use Rattle.laws.specs.Values.{Small}
+use Rattle.laws.specs.Gathers.{wholes}
 use Rattle.laws.specs.Meaning.{gives-name}
 use Rattle.lines.proofs.Memories.{remembers-small}
 use Rattle.places.specs.Inside.{PlaceIn}
@@ -150,7 +151,7 @@ module _ (f known store : List ℕ) (base : Ask Outcome) {at : ℕ} {old : List 
 -- what a named type starts with
 name-small : {f known store : List ℕ} (name : ℕ) → Link (IsType f) name → (M : Memo) → Memory f known store M → (t : Tree) → peek M (nameDefault name) ≡ got (ok t) → Small t
 name-small {f} {known} {store} name l M m t e =
-    peek-to (IsType f) (λ d o. OnOk Small o) (OnOk Small) M (λ d o p q. remembers-small (m .remembers) d o (omega (arith, m .all)) q) (nameDefault name) (gives-name (IsType f) name l) (ok t) e
+    peek-to (IsType f) (λ d o. OnOk Small o) (OnOk Small) M (λ d o p q. remembers-small (m .remembers) d o (omega (arith, m .all)) q) (nameDefault name) (gives-name wholes (IsType f) name l) (ok t) e
 
 module _ {f source known store : List ℕ} (y : Ready f source known store) where
   module _ {place : Place} (i : PlaceIn f place) {at : ℕ} {old : List ℕ} {r : Built} {mid : List ℕ} (x : Builds f known store flatten (defaultOf f place) at old r mid) {end : ℕ} (q : r ≡ Ends end) where
