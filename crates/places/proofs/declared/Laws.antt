@@ -9,7 +9,7 @@ use lib.Dec.{eqb, leb, lit<}
 use lib.ListN.{getD, set, length-set}
 use lib.Seq.{getD-set-same, getD-set-other}
 use borrow.Author.Needs.{needs}
-use borrow.Author.Tests.{eq-eqb, ne-eqb, eqb-false, le-leb, lt-leb}
+use borrow.Author.Tests.{eq-eqb, ne-eqb, eqb-false, leb-true, le-leb, lt-leb}
 use Rattle.definition.specs.Base.{pick, onLink, inline}
 use Rattle.definition.specs.Layout.{word, count, types, elements, initializers, mostRecords, limitsOfRecords}
 use Rattle.definition.specs.Records.{aliasBase, declarationKind, initializerKind, namedType}
@@ -165,8 +165,9 @@ unfolding declaredTypes
 declared-most f zero = omega arith
 declared-most f (suc t) = omega (arith, declared-most f t, one (leb 1 (declarationKind f t) && leb (declarationKind f t) 8))
 
-pub declared-fits : {f source : List ℕ} → Accepted f → DeclaredIn f source → getD source 15 0 + 1 < 2 ^ 64
-declared-fits {f} {source} a i = omega (arith, i .counted, few-types f a, declared-most f (count f types))
+-- a few steps more fit too
+pub declared-fits : {f source : List ℕ} → Accepted f → DeclaredIn f source → (n : ℕ) → leb n 16 ≡ true → getD source 15 0 + n < 2 ^ 64
+declared-fits {f} {source} a i n h = omega (arith, i .counted, few-types f a, declared-most f (count f types), leb-true n 16 h)
 
 module _ (f : List ℕ) (name t : ℕ) where
   pub declared-starts : {source : List ℕ} → DeclaredIn f source → Comes (fieldDeclarationUpTo f name) (getD source 15 0 + 1) t (fieldDeclaration f name t)
