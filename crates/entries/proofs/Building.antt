@@ -70,7 +70,7 @@ use Rattle.entries.specs.Leaves.{simpleOf, pushed, PushesTree, PushesSim
 use Rattle.entries.specs.Copies.{Taken, Takes, TakesFirst, CopiesStructure, CopiesDefault, Remains, PushesCopies, PushesDefaults, defaultedOf, FillsRest, Heads, SetThere, Sets, SetsKept, Targets, Finds, PutsMember}
 use Rattle.entries.specs.Entries.{runDepth, RoomThere, DefaultsThere, RunThere, ValuesThere, FieldsThere, ValueThere, ElementDefaults, Expands, Repeats, RepeatsEntry, ExpandsStructure, ExpandsAll, BuildsArray, valuesOf, FillsArray, FillsValues, Applies, memberStep, SetsMember, BuildsMember, BuildsStructure}
 use Rattle.entries.proofs.Onward.{take-less, builds-as, lists-as, builds-same, lists-same}
-use Rattle.entries.proofs.Copying.{next-few}
+use Rattle.entries.proofs.Copying.{next-few, rest-zero}
 use Rattle.entries.proofs.Gathering.{SoFar, so-far-none, so-far-more, so-far-fails, so-far-all, now-at, defaults-kept}
 use Rattle.entries.proofs.Entering.{lower, ready-less, current-less, structure-init, structure-depth, array-init, array-depth}
 use Rattle.entries.proofs.Nesting.{fields-some, fields-none, then-same}
@@ -215,7 +215,7 @@ module _ (f known store : List ℕ) (p : Place) (first many places : ℕ) (old :
       record {
         says = λ M k ds st gd n deep room.
             let v = w .says M k ds
-            (record { defaults = record { end = end; stands = st; before = omega arith; whole = gd; count = n }; few = omega arith; small = omega arith; room = omega arith }) (omega arith) in
+            (record { defaults = record { end = end; stands = rw (rest-zero ds) st; before = omega arith; whole = gd; count = n }; few = omega arith; small = omega arith; room = omega arith }) (omega arith) in
             z .says M (Defs.expandAll f (initsAt f first many) (leafPlace f p) ds 0 0) ds (record { from = 0; places = places; made = 0; size = 0 }) refl refl refl n gd
             (stand-kept st mid end g (omega arith) (v .kept))
             (rw (← q) (v .lists)) (omega arith);
@@ -560,7 +560,7 @@ module _ (f : List ℕ) (first many : ℕ) where
   run-there {places} {s} {end} y =
       record {
         trees = y .trees;
-        ready = record { defaults = record { end = end; stands = y .stands; before = omega arith; whole = y .small; count = y .counts }; few = omega arith; small = omega arith; room = omega (arith, y .room) };
+        ready = record { defaults = record { end = end; stands = rw (rest-zero (y .trees)) (y .stands); before = omega arith; whole = y .small; count = y .counts }; few = omega arith; small = omega arith; room = omega (arith, y .room) };
         room = omega (arith, y .room);
       }
 

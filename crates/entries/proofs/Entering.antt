@@ -242,7 +242,7 @@ module _ {f known store : List ℕ} (k e : ℕ) {leaf : Place} {l : Filling} {at
   entry-many old h =
       record { says = λ M kn ds y. let n = y .defaults .count in record { kept = refl; lists = rw (n, lt-leb k (l .places) h) (peek-nothing M) } }
 
-  module _ (h : k ≤ l .places) {old : List ℕ} {left : Filling} (s : Remains old l left) {r : Listed} {mid : List ℕ} (w : Expands f known store e leaf left old at r mid) (g : length mid ≡ length old)
+  module _ (h : k ≤ l .places) {old : List ℕ} {left : Filling} (s : Remains l left) {r : Listed} {mid : List ℕ} (w : Expands f known store e leaf left old at r mid) (g : length mid ≡ length old)
       {r' : Listed} {new : List ℕ} (z : PushesCopies r k l mid at r' new) where
     repeated-is : (M : Memo) (ds : Trees) → many ds ≡ l .places
         → peek M (expand f (Init.repeated k (initAt f e)) leaf ds (l .made) (l .size))
@@ -257,7 +257,7 @@ module _ {f known store : List ℕ} (k e : ℕ) {leaf : Place} {l : Filling} {at
               let a = s .none-made in
               let b = s .no-size in
               let w' = w .says M kn (rest (l .made) ds)
-              (record { defaults = s .says ds at (y .defaults) (y .few); few = omega arith; small = omega arith; room = omega (arith, y .room) }) in
+              (record { defaults = s .says old ds at (y .defaults); few = omega arith; small = omega arith; room = omega (arith, y .room) }) in
               let p : peek M (expand f (initAt f e) leaf (rest (l .made) ds) 0 0) ≡ peek M (expand f (initAt f e) leaf (rest (l .made) ds) (left .made) (left .size)) =
               ap (λ c. peek M (expand f (initAt f e) leaf (rest (l .made) ds) c 0)) (sym a) ∙ ap (λ c. peek M (expand f (initAt f e) leaf (rest (l .made) ds) (left .made) c)) (sym b) in
               record {
@@ -291,11 +291,11 @@ pub link-there : (f : List ℕ) (link : ℕ) → (link ≡ 0 → ⊥) → {s : L
 link-there f zero n y = absurd (n refl)
 link-there f (suc e) n y = let q : suc e - 1 ≡ e = omega arith in rw q y
 
-pub left-there : (f : List ℕ) (e : ℕ) {s : List ℕ} {l left : Filling} {at : ℕ} → Remains s l left → DefaultsThere s l at (rooms f (entryDepth f e)) → DefaultsThere s left at (rooms f (entryDepth f e - 1))
+pub left-there : (f : List ℕ) (e : ℕ) {s : List ℕ} {l left : Filling} {at : ℕ} → Remains l left → DefaultsThere s l at (rooms f (entryDepth f e)) → DefaultsThere s left at (rooms f (entryDepth f e - 1))
 left-there f e {s} {l} {left} {at} r y =
     record {
       trees = rest (l .made) (y .trees);
-      ready = record { defaults = r .says (y .trees) at (y .ready .defaults) (y .ready .few); few = omega (arith, r .none-made); small = omega (arith, r .no-size); room = omega (arith, y .ready .room) };
+      ready = record { defaults = r .says s (y .trees) at (y .ready .defaults); few = omega (arith, r .none-made); small = omega (arith, r .no-size); room = omega (arith, y .ready .room) };
     }
 
 pub ruleset lower = (needs, structure-there, repeat-there, member-there, array-there, link-there, left-there, structure-falls, structure-run, repeat-falls, repeat-link, member-falls, array-falls, array-run, run-fits, run-next, link-entry, link-falls, run-falls, members-fall, leaf-inside)

@@ -67,11 +67,11 @@ use Rattle.entries.specs.Answers.{TreeThere, Builds, ListThere, Lists, P
 use Rattle.build.specs.Built.{Memory}
 use Rattle.entries.specs.Room.{Given, Known, shapesDeep, rooms, Defaults, Ready, Structure, Current, whole}
 use Rattle.entries.specs.Leaves.{simpleOf, pushed, PushesTree, PushesSimple, PutsSimple}
-use Rattle.entries.specs.Copies.{Taken, Takes, TakesFirst, CopiesStructure, CopiesDefault, Remains, PushesCopies, PushesDefaults, defaultedOf, FillsRest, Heads, SetThere, Sets, SetsKept, Targets, Finds, PutsMember}
+use Rattle.entries.specs.Copies.{Taken, Takes, TakesFirst, CopiesStructure, CopiesDefault, MovesOn, Remains, PushesCopies, PushesDefaults, defaultedOf, FillsRest, Heads, SetThere, Sets, SetsKept, Targets, Finds, PutsMember}
 use Rattle.entries.specs.Entries.{runDepth, RoomThere, DefaultsThere, RunThere, ValuesThere, FieldsThere, ValueThere, ElementDefaults, Expands, Repeats, RepeatsEntry, ExpandsStructure, ExpandsAll, BuildsArray, valuesOf, FillsArray, FillsValues, Applies, memberStep, SetsMember, BuildsMember, BuildsStructure}
 use Rattle.entries.proofs.Onward.{take-less, builds-as, lists-as, builds-same, lists-same}
 use Rattle.entries.proofs.Copying.{next-few}
-use Rattle.entries.proofs.Gathering.{SoFar, so-far-none, so-far-more, so-far-fails, so-far-all, now-at, defaults-kept}
+use Rattle.entries.proofs.Gathering.{SoFar, so-far-none, so-far-more, so-far-fails, so-far-all, now-at, Along, along-ready, along-next}
 use Rattle.entries.proofs.Entering.{ready-less, current-less, structure-init, structure-depth, array-init, array-depth}
 
 -- ---- `push_structure`
@@ -165,13 +165,13 @@ default-there f n {l} {old} {at} {b} {mid} c {end} q g y = go (rest (l .made) (y
         }
 
 -- ---- `expand_all`
-pub record AllInv (f known store : List ℕ) (first many : ℕ) (leaf : Place) (l : Filling) (old : List ℕ) (at i to made size : ℕ) (s : List ℕ) : Type 0 where
+pub record AllInv (f known store : List ℕ) (first many : ℕ) (leaf : Place) (l : Filling) (old : List ℕ) (at i from to made size : ℕ) (s : List ℕ) : Type 0 where
   pub long : length s ≡ length old
   pub some : i ≤ many
   pub says : (M : Memo) → Memory f known store M → (ds : Trees) → Ready old l at 0 ds → at + 24576 * (runDepth f first many + shapesDeep f) ≤ length old + 6 * suc (l .size)
-      → SoFar M (Defs.expandAll f (initsAt f first many) leaf ds (l .made) (l .size)) (Defs.expandAll f (initsAt f (first + i) (many - i)) leaf ds made size) l old at to made size s
+      → Along M (Defs.expandAll f (initsAt f first many) leaf ds (l .made) (l .size)) (Defs.expandAll f (initsAt f (first + i) (many - i)) leaf ds made size) l old at ds from to made size s
 
-pub all-first : (f known store : List ℕ) (first many : ℕ) (leaf : Place) (l : Filling) (old : List ℕ) (at : ℕ) → AllInv f known store first many leaf l old at 0 at (l .made) (l .size) old
+pub all-first : (f known store : List ℕ) (first many : ℕ) (leaf : Place) (l : Filling) (old : List ℕ) (at : ℕ) → AllInv f known store first many leaf l old at 0 (l .from) at (l .made) (l .size) old
 all-first f known store first many leaf l old at =
     record {
       long = refl;
@@ -179,7 +179,10 @@ all-first f known store first many leaf l old at =
       says = λ M k ds y room.
           let a : first + 0 ≡ first = omega arith in
           let b : many - 0 ≡ many = omega arith in
-          rw (a, b) (so-far-none M (Defs.expandAll f (initsAt f first many) leaf ds (l .made) (l .size)) l old at (omega (arith, y .room)) (y .few) (y .small));
+          record {
+            far = rw (a, b) (so-far-none M (Defs.expandAll f (initsAt f first many) leaf ds (l .made) (l .size)) l old at (omega (arith, y .room)) (y .few) (y .small));
+            next = y .defaults;
+          };
     }
 
 all-is : (M : Memo) (f : List ℕ) (first k : ℕ) (leaf : Place) (ds : Trees) (made size : ℕ)
@@ -188,30 +191,26 @@ all-is : (M : Memo) (f : List ℕ) (first k : ℕ) (leaf : Place) (ds : Trees) (
 unfolding expand
 all-is M f first k leaf ds made size = rw (inits-next f first k)
 
-module _ {f known store : List ℕ} {first many : ℕ} {leaf : Place} {l : Filling} {old : List ℕ} {at i to made size : ℕ} {s : List ℕ}
-    (y : AllInv f known store first many leaf l old at i to made size s) where
+module _ {f known store : List ℕ} {first many : ℕ} {leaf : Place} {l : Filling} {old : List ℕ} {at i from to made size : ℕ} {s : List ℕ}
+    (y : AllInv f known store first many leaf l old at i from to made size s) where
   pub all-all : many ≤ i → ExpandsAll f known store first many leaf l old at (listed.Ends to made size) s
   unfolding expand
   all-all h =
       record {
         says = λ M k ds z room.
             let e : many - i ≡ 0 = omega arith in
-            so-far-all M _ l old at (y .says M k ds z room) (ap (λ n. Defs.expandAll f (initsAt f (first + i) n) leaf ds made size) e ∙ ap (λ is. Defs.expandAll f is leaf ds made size) (inits-none f (first + i)));
+            so-far-all M _ l old at (y .says M k ds z room .far) (ap (λ n. Defs.expandAll f (initsAt f (first + i) n) leaf ds made size) e ∙ ap (λ is. Defs.expandAll f is leaf ds made size) (inits-none f (first + i)));
       }
 
   module _ {source : List ℕ} (gv : Given f source known) (hr : first + many ≤ count f entries) (h : i < many) {r : Listed} {new : List ℕ}
-      (w : Expands f known store (first + i) leaf (now-at l made size) s to r new) where
+      (w : Expands f known store (first + i) leaf (now-at l from made size) s to r new) where
     all-ready : (M : Memo) → Memory f known store M → (ds : Trees) → Ready old l at 0 ds → at + 24576 * (runDepth f first many + shapesDeep f) ≤ length old + 6 * suc (l .size)
-        → Ready s (now-at l made size) to (rooms f (entryDepth f (first + i) - 1)) ds
+        → Ready s (now-at l from made size) to (rooms f (entryDepth f (first + i) - 1)) ds
     all-ready M k ds z room =
-        let v = y .says M k ds z room in
+        let v = y .says M k ds z room .far in
         let d = deepest-at (entryDepth f) first many (first + i) (omega arith) (omega arith) in
-        record {
-          defaults = defaults-kept (z .defaults) s to (omega (arith, v .ends)) (y .long) (v .kept);
-          few = v .few;
-          small = omega (arith, v .small .room, v .sizes);
-          room = omega (arith, v .small .room, v .ends, y .long, entry-depth-least f (gv .accepted) (first + i) (omega arith));
-        }
+        along-ready (y .says M k ds z room) (rooms f (entryDepth f (first + i) - 1))
+        (omega (arith, v .small .room, v .ends, y .long, entry-depth-least f (gv .accepted) (first + i) (omega arith)))
 
     all-step : (M : Memo) (ds : Trees)
         → peek M (Defs.expandAll f (initsAt f (first + i) (many - i)) leaf ds made size)
@@ -225,38 +224,40 @@ module _ {f known store : List ℕ} {first many : ℕ} {leaf : Place} {l : Filli
         record {
           says = λ M k ds z room.
               let v = w .says M k ds (all-ready M k ds z room) in
-              so-far-fails M _ l old at (y .says M k ds z room) (expand f (initAt f (first + i)) leaf ds made size)
-              (λ m n. Defs.expandAll f (initsAt f (suc (first + i)) (many - (i + 1))) leaf ds m n) (all-step M ds) (now-at l made size) refl refl refl new r o (v .lists) (v .kept);
+              so-far-fails M _ l old at (y .says M k ds z room .far) (expand f (initAt f (first + i)) leaf ds made size)
+              (λ m n. Defs.expandAll f (initsAt f (suc (first + i)) (many - (i + 1))) leaf ds m n) (all-step M ds) (now-at l from made size) refl refl refl new r o (v .lists) (v .kept);
         }
 
-    pub all-more : {e m n : ℕ} → r ≡ listed.Ends e m n → length new ≡ length s → AllInv f known store first many leaf l old at (i + 1) e m n new
-    all-more {e} {m} {n} j g =
+    pub all-more : {e m n : ℕ} → r ≡ listed.Ends e m n → length new ≡ length s → {from' : ℕ} → MovesOn new from made m from' → AllInv f known store first many leaf l old at (i + 1) from' e m n new
+    all-more {e} {m} {n} j g x =
         record {
           long = g ∙ y .long;
           some = omega arith;
           says = λ M k ds z room.
               let v = w .says M k ds (all-ready M k ds z room) in
+              let t = lists-as M _ (now-at l from made size) to new j (v .lists) in
               let c : first + (i + 1) ≡ suc (first + i) = omega arith in
-              rw c (so-far-more M _ l old at (y .says M k ds z room) (expand f (initAt f (first + i)) leaf ds made size)
-              (λ m n. Defs.expandAll f (initsAt f (suc (first + i)) (many - (i + 1))) leaf ds m n) (all-step M ds) (now-at l made size) refl refl refl new
-              (lists-as M _ (now-at l made size) to new j (v .lists)) (v .kept) g);
+              record {
+                far =
+                    rw c (so-far-more M _ l old at (y .says M k ds z room .far) (expand f (initAt f (first + i)) leaf ds made size)
+                    (λ m n. Defs.expandAll f (initsAt f (suc (first + i)) (many - (i + 1))) leaf ds m n) (all-step M ds) (now-at l from made size) refl refl refl new t (v .kept) g);
+                next = along-next (y .says M k ds z room) t (v .kept) g x;
+              };
         }
 
 -- what stands for the next entry
-pub all-there : {f known store : List ℕ} {first many : ℕ} {leaf : Place} {l : Filling} {old : List ℕ} {at i to made size : ℕ} {s : List ℕ} → AllInv f known store first many leaf l old at i to made size s
+pub all-there : {f known store : List ℕ} {first many : ℕ} {leaf : Place} {l : Filling} {old : List ℕ} {at i from to made size : ℕ} {s : List ℕ} → AllInv f known store first many leaf l old at i from to made size s
     → {source : List ℕ} → Given f source known → first + many ≤ count f entries → i < many → Known f known store → RunThere f first many old l at
-    → DefaultsThere s (now-at l made size) to (rooms f (entryDepth f (first + i) - 1))
-all-there {f} {known} {store} {first} {many} {leaf} {l} {old} {at} {i} {to} {made} {size} {s} y gv hr h kn z =
-    let v = y .says (kn .memo) (kn .memory) (z .trees) (z .ready) (z .room) in
+    → DefaultsThere s (now-at l from made size) to (rooms f (entryDepth f (first + i) - 1))
+all-there {f} {known} {store} {first} {many} {leaf} {l} {old} {at} {i} {from} {to} {made} {size} {s} y gv hr h kn z =
+    let w = y .says (kn .memo) (kn .memory) (z .trees) (z .ready) (z .room) in
+    let v = w .far in
     let d = deepest-at (entryDepth f) first many (first + i) (omega arith) (omega arith) in
     record {
       trees = z .trees;
-      ready = record {
-        defaults = defaults-kept (z .ready .defaults) s to (omega (arith, v .ends)) (y .long) (v .kept);
-        few = v .few;
-        small = omega (arith, v .small .room, v .sizes);
-        room = omega (arith, z .room, v .small .room, v .ends, y .long, entry-depth-least f (gv .accepted) (first + i) (omega arith));
-      };
+      ready =
+          along-ready w (rooms f (entryDepth f (first + i) - 1))
+          (omega (arith, z .room, v .small .room, v .ends, y .long, entry-depth-least f (gv .accepted) (first + i) (omega arith)));
     }
 
 pub ruleset nesting = (needs, default-there, all-there, structure-pushed, structure-fails, all-first, all-all, all-fails, all-more)

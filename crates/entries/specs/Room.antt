@@ -5,7 +5,7 @@ use Prim.Native.Nat.{ℕ, suc, _+_, _*_, _≤_, _<_}
 use lib.ListN.{length}
 use Rattle.definition.specs.Layout.{count, types, shapes, entries}
 use Rattle.laws.specs.Links.{Link}
-use Rattle.definition.specs.Tree.{Tree, Trees, many, nodes, flatten, flattenAll, structureTree, mostNodes}
+use Rattle.definition.specs.Tree.{Tree, Trees, many, nodes, flatten, flattenAll, structureTree, rest, mostNodes}
 use Rattle.definition.specs.Resolve.{Memo}
 use Rattle.definition.specs.Depth.{deepest, shapeDepth}
 use Rattle.laws.specs.Accepted.{Accepted}
@@ -37,17 +37,17 @@ shapesDeep f = deepest (shapeDepth f) 0 (count f shapes)
 abbrev pub rooms : List ℕ → ℕ → ℕ
 rooms f n = 12288 + 24576 * (n + shapesDeep f)
 
--- the defaults of an array
-pub record Defaults (s : List ℕ) (from places : ℕ) (ds : Trees) (upto : ℕ) : Type 0 where
+-- the defaults of an array, of which those of the places that have no value yet stand at `from`
+pub record Defaults (s : List ℕ) (from made places : ℕ) (ds : Trees) (upto : ℕ) : Type 0 where
   pub end : ℕ
-  pub stands : Stand s from (flattenAll ds) end
+  pub stands : Stand s from (flattenAll (rest made ds)) end
   pub before : end ≤ upto
   pub whole : Gathered 0 ds
   pub count : many ds ≡ places
 
 -- an array's defaults, the values so far, and room for the next
 pub record Ready (s : List ℕ) (l : Filling) (at need : ℕ) (ds : Trees) : Type 0 where
-  pub defaults : Defaults s (l .from) (l .places) ds at
+  pub defaults : Defaults s (l .from) (l .made) (l .places) ds at
   pub few : l .made ≤ l .places
   pub small : suc (l .size) ≤ mostNodes
   pub room : at + need ≤ length s

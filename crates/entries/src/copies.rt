@@ -3,7 +3,7 @@ ghost use mathlib.Core.Path.{_≡_};
 ghost use Prim.Native.Nat.{_-_, _≤_};
 ghost use Rattle.places.specs.Inside.{PlaceIn};
 ghost use Rattle.entries.specs.Room.{Given};
-ghost use Rattle.entries.specs.Copies.{CopiesWords, PushesWords, CopiesFields, CopiesStructure, CopiesDefault, Remains, CopiesList, PushesCopies, NextDefault, EachDefault, PushesDefaults, FillsOver, FillsRest, PutsHead, Heads, Finds, PutsMember};
+ghost use Rattle.entries.specs.Copies.{CopiesWords, PushesWords, CopiesFields, CopiesStructure, CopiesDefault, MovesOn, Remains, CopiesList, PushesCopies, NextDefault, EachDefault, PushesDefaults, FillsOver, FillsRest, PutsHead, Heads, Finds, PutsMember};
 use crate::answers::Filling;
 use crate::answers::Listed;
 use crate::leaves::nodes_between;
@@ -16,6 +16,7 @@ use places::field::field_place;
 use records::words::word;
 use tree::extent::Extent;
 use tree::extent::after;
+use tree::extent::whole;
 use tree::grow::Grown;
 use tree::grow::Span;
 use tree::grow::assign;
@@ -30,7 +31,6 @@ use tree::node::write_structure;
 use tree::part::Found;
 use tree::part::Value;
 use tree::part::find;
-use tree::part::nth;
 use tree::part::value_at;
 use tree::words::fits;
 use tree::words::shift;
@@ -74,9 +74,9 @@ pub fn copy_default(l: Filling, room: &mut [u32], at: usize) -> Built
     ensures { λ r. ⌜ CopiesDefault l (now (room .entry)) at r (now (room .exit)) ⌝ }
 {
     if l.made < l.places {
-        match nth(&room[..], l.from, l.made) {
-            Found::At(begin, end) => copy_structure(room, begin, end, at),
-            Found::Nothing => Built::None,
+        match whole(&room[..], l.from) {
+            Extent::Ends(end) => copy_structure(room, l.from, end, at),
+            Extent::Not => Built::None,
         }
     } else {
         Built::None
@@ -92,23 +92,25 @@ fn less(a: usize, b: usize) -> usize
     a - b
 }
 
-// The defaults of the places that are left.
-pub fn remaining(room: &[u32], l: Filling) -> Filling
-    ensures { λ r. ⌜ Remains (now (room .entry)) l r ⌝ }
+// Where the default of the next place stands, once there are more values.
+pub fn moved_on(room: &[u32], from: usize, made: usize, more: usize) -> usize
+    ensures { λ r. ⌜ MovesOn (now (room .entry)) from made more r ⌝ }
 {
-    match after(room, l.from, l.made) {
-        Extent::Ends(from) => Filling {
-            from,
-            places: less(l.places, l.made),
-            made: 0,
-            size: 0,
-        },
-        Extent::Not => Filling {
-            from: 0,
-            places: 0,
-            made: 0,
-            size: 0,
-        },
+    match after(room, from, less(more, made)) {
+        Extent::Ends(next) => next,
+        Extent::Not => from,
+    }
+}
+
+// The defaults of the places that are left.
+pub fn remaining(l: Filling) -> Filling
+    ensures { λ r. ⌜ Remains l r ⌝ }
+{
+    Filling {
+        from: l.from,
+        places: less(l.places, l.made),
+        made: 0,
+        size: 0,
     }
 }
 
@@ -173,9 +175,9 @@ fn next_default(l: Filling, room: &mut [u32], at: usize) -> Listed
     ensures { λ r. ⌜ NextDefault l (now (room .entry)) at r (now (room .exit)) ⌝ }
 {
     if l.made < l.places {
-        match nth(&room[..], l.from, l.made) {
-            Found::At(begin, end) => push_words(begin, end, l, room, at),
-            Found::Nothing => Listed::None,
+        match whole(&room[..], l.from) {
+            Extent::Ends(end) => push_words(l.from, end, l, room, at),
+            Extent::Not => Listed::None,
         }
     } else {
         Listed::None
@@ -186,13 +188,14 @@ fn each_default(times: usize, l: Filling, room: &mut [u32], at: usize) -> Listed
     ensures { λ r. ⌜ EachDefault times l (now (room .entry)) at r (now (room .exit)) ⌝ }
 {
     let mut left = times;
+    let mut from = l.from;
     let mut to = at;
     let mut made = l.made;
     let mut size = l.size;
     while left > 0 {
         let r = next_default(
             Filling {
-                from: l.from,
+                from,
                 places: l.places,
                 made,
                 size,
@@ -208,6 +211,7 @@ fn each_default(times: usize, l: Filling, room: &mut [u32], at: usize) -> Listed
         else {
             return r;
         };
+        from = moved_on(&room[..], from, made, m);
         to = e;
         made = m;
         size = n;

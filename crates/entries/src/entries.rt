@@ -17,6 +17,7 @@ use crate::copies::copy_default;
 use crate::copies::copy_structure;
 use crate::copies::fill_rest;
 use crate::copies::find_field;
+use crate::copies::moved_on;
 use crate::copies::push_copies;
 use crate::copies::push_defaults;
 use crate::copies::put_member;
@@ -112,7 +113,7 @@ pub fn repeat_entry(
     if l.places < times as usize {
         return Listed::None;
     }
-    let left = remaining(&room[..], l);
+    let left = remaining(l);
     let r = expand(file, source, known, store, e, leaf, left, room, at);
     push_copies(r, times as usize, l, room, at)
 }
@@ -169,6 +170,7 @@ pub fn expand_all(
     ensures { λ r. ⌜ ExpandsAll (now (file .entry)) (now (known .entry)) (now (store .entry)) first count leaf l (now (room .entry)) at r (now (room .exit)) ⌝ }
 {
     let mut i: u32 = 0;
+    let mut from = l.from;
     let mut to = at;
     let mut made = l.made;
     let mut size = l.size;
@@ -181,7 +183,7 @@ pub fn expand_all(
             first + i,
             leaf,
             Filling {
-                from: l.from,
+                from,
                 places: l.places,
                 made,
                 size,
@@ -197,6 +199,7 @@ pub fn expand_all(
         else {
             return r;
         };
+        from = moved_on(&room[..], from, made, m);
         to = e;
         made = m;
         size = n;

@@ -47,6 +47,7 @@ use Rattle.entries.proofs.copies.copy_default.Reads as copy-default-rea
 use Rattle.entries.proofs.copies.copy_structure.Reads as copy-structure-reads
 use Rattle.entries.proofs.copies.fill_rest.Reads as fill-rest-reads
 use Rattle.entries.proofs.copies.find_field.Reads as find-field-reads
+use Rattle.entries.proofs.copies.moved_on.Reads as moved-on-reads
 use Rattle.entries.proofs.copies.push_copies.Reads as push-copies-reads
 use Rattle.entries.proofs.copies.push_defaults.Reads as push-defaults-reads
 use Rattle.entries.proofs.copies.put_member.Reads as put-member-reads
@@ -222,11 +223,11 @@ apply-members-μ-loop file source known store first count place room₀ at end i
     count - i
 
 abbrev expand-all-Inv-loop : expand-all-lts.InvT-loop
-expand-all-Inv-loop file source known store first count leaf l room₀ at i₀ to₀ made₀ size₀ room i to made size =
-    AllInv file known store first count leaf l room₀ at i to made size room
+expand-all-Inv-loop file source known store first count leaf l room₀ at i₀ from₀ to₀ made₀ size₀ room i from to made size =
+    AllInv file known store first count leaf l room₀ at i from to made size room
 
 abbrev expand-all-μ-loop : expand-all-lts.MeasureT-loop
-expand-all-μ-loop file source known store first count leaf l room₀ at i₀ to₀ made₀ size₀ room i to made size =
+expand-all-μ-loop file source known store first count leaf l room₀ at i₀ from₀ to₀ made₀ size₀ room i from to made size =
     count - i
 
 pub +apply-members+array+expand+expand-all+fill+fill-values+member+member-structure+push-repeat+push-structure+repeat-entry+set-member-spec :
@@ -310,7 +311,7 @@ pub +apply-members+array+expand+expand-all+fill+fill-values+member+member-struct
     (λ c. search lower)
     (λ c. search entering))
     (λ t. expand-all-lts.spec
-    (expand-below t, expand.Post)
+    (expand-below t, expand.Post, moved-on-reads.Asked, moved-on-reads.Learnt)
     (expand-all-at t)
     expand-all.Post
     expand-all-Inv-loop
@@ -321,6 +322,7 @@ pub +apply-members+array+expand+expand-all+fill+fill-values+member+member-struct
     (λ c. search lower)
     (λ c. search lower)
     (λ c. search nesting)
+    (λ c κs. search lower)
     (λ c. search lower)
     (λ c. search lower)
     (λ c. search nesting)
