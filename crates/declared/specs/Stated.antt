@@ -22,6 +22,8 @@ use Rattle.laws.specs.Values.{Small}
 use Rattle.laws.specs.Pointed.{Run, InArray, InMembers}
 use Rattle.laws.specs.Peeking.{onGot}
 use Rattle.tree.specs.Words.{Stand}
+use Rattle.declared.specs.declared.values.Stated.{Stated}
+use Rattle.declared.specs.declared.values.Stated.the-variants as stated
 use Rattle.build.specs.declared.built.Built.{Built}
 use Rattle.build.specs.declared.built.Built.the-variants.{Ends}
 use Rattle.build.specs.Built.{Gives, Memory}
@@ -32,17 +34,15 @@ pub record Lays (m : Ask Outcome) (at : ℕ) (old : List ℕ) (r : Built) (new :
   pub kept : take at new ≡ take at old
 
 -- ---- what is stated, or else another default
-unfoldable pub constantOr : List ℕ → Place → ℕ → Ask Outcome → Ask Outcome
-constantOr f place value other = ifStated value (λ u. other) (constantAs f place)
+-- what a value's link leads to
+unfoldable pub statedAs : List ℕ → Stated → Place → ℕ → Ask Outcome
+statedAs f stated.Constant place = constantAs f place
+statedAs f stated.Enumerated place = enumeratedAs f place
+statedAs f stated.Reference place = referenceAs f
+statedAs f stated.Nothing place = λ c. nothing
 
-unfoldable pub enumeratedOr : List ℕ → Place → ℕ → Ask Outcome → Ask Outcome
-enumeratedOr f place value other = ifStated value (λ u. other) (enumeratedAs f place)
-
-unfoldable pub referenceOr : List ℕ → ℕ → Ask Outcome → Ask Outcome
-referenceOr f value other = ifStated value (λ u. other) (referenceAs f)
-
-unfoldable pub noneOr : ℕ → Ask Outcome → Ask Outcome
-noneOr value other = ifStated value (λ u. other) (λ c. nothing)
+unfoldable pub statedOr : List ℕ → Stated → Place → ℕ → Ask Outcome → Ask Outcome
+statedOr f what place value other = ifStated value (λ u. other) (statedAs f what place)
 
 unfoldable pub arrayOr : List ℕ → Place → ℕ → ℕ → Ask Outcome → Ask Outcome
 arrayOr f place first many other = choose (eqb many 0) (λ u. other) (λ u. arrayOf f place first many)

@@ -8,11 +8,9 @@ ghost use Rattle.places.specs.Inside.{PlaceIn};
 ghost use Rattle.build.specs.Built.{Ready, Builds};
 ghost use Rattle.declared.specs.Rooms.{initLevels};
 use crate::stated::array_or_default;
-use crate::stated::constant_or_default;
-use crate::stated::enumerated_or_default;
 use crate::stated::members_over_default;
-use crate::stated::none_or_default;
-use crate::stated::reference_or_default;
+use crate::stated::stated_or_default;
+use crate::values::Stated;
 use build::built::Built;
 use build::defaults::default_of;
 use definition::records::Initializer;
@@ -36,22 +34,24 @@ pub fn initializer(
     let v = initializer_at(file, source, i);
     match v {
         Initializer::Nothing => default_of(file, source, known, store, place, room, at),
-        Initializer::Subrange { value } => constant_or_default(
+        Initializer::Subrange { value } => stated_or_default(
             file,
             source,
             known,
             store,
             place,
+            Stated::Constant,
             value,
             room,
             at,
         ),
-        Initializer::Simple { value } => constant_or_default(
+        Initializer::Simple { value } => stated_or_default(
             file,
             source,
             known,
             store,
             place,
+            Stated::Constant,
             value,
             room,
             at,
@@ -60,23 +60,35 @@ pub fn initializer(
             value,
             length: _,
             width: _,
-        } => constant_or_default(file, source, known, store, place, value, room, at),
-        Initializer::EnumeratedValues { value } => enumerated_or_default(
+        } => stated_or_default(
             file,
             source,
             known,
             store,
             place,
+            Stated::Constant,
             value,
             room,
             at,
         ),
-        Initializer::EnumeratedType { value } => enumerated_or_default(
+        Initializer::EnumeratedValues { value } => stated_or_default(
             file,
             source,
             known,
             store,
             place,
+            Stated::Enumerated,
+            value,
+            room,
+            at,
+        ),
+        Initializer::EnumeratedType { value } => stated_or_default(
+            file,
+            source,
+            known,
+            store,
+            place,
+            Stated::Enumerated,
             value,
             room,
             at,
@@ -114,22 +126,24 @@ pub fn initializer(
             room,
             at,
         ),
-        Initializer::Reference { value } => reference_or_default(
+        Initializer::Reference { value } => stated_or_default(
             file,
             source,
             known,
             store,
             place,
+            Stated::Reference,
             value,
             room,
             at,
         ),
-        Initializer::LateResolved { value } => none_or_default(
+        Initializer::LateResolved { value } => stated_or_default(
             file,
             source,
             known,
             store,
             place,
+            Stated::Nothing,
             value,
             room,
             at,

@@ -10,13 +10,13 @@ ghost use Rattle.laws.specs.Used.{IsType};
 ghost use Rattle.places.specs.Inside.{PlaceIn};
 ghost use Rattle.build.specs.Built.{indexAt, Ready, Builds};
 ghost use Rattle.build.specs.Parts.{implicitLevels, startLevels};
-ghost use Rattle.declared.specs.Stated.{constantOr, enumeratedOr, referenceOr, noneOr, arrayOr, membersOver, ArrayIn, MembersIn, SpecIn};
+ghost use Rattle.declared.specs.declared.values.Stated.the-variants as stated;
+ghost use Rattle.declared.specs.Stated.{statedOr, arrayOr, membersOver, ArrayIn, MembersIn, SpecIn};
 ghost use Rattle.declared.specs.Rooms.{entryLevels};
 use crate::given::apply_members;
 use crate::given::array_of;
-use crate::values::constant_start;
-use crate::values::enumerated_start;
-use crate::values::reference_start;
+use crate::values::Stated;
+use crate::values::stated_start;
 use build::built::Built;
 use build::defaults::default_of;
 use build::defaults::implicit;
@@ -24,24 +24,25 @@ use build::remembered::type_default;
 use definition::layout::INLINE;
 use definition::records::Place;
 
-// A constant, or the default of the place.
-pub fn constant_or_default(
+// What is stated for a place, or its default.
+pub fn stated_or_default(
     file: &[u32],
     source: &[usize],
     known: &[u32],
     store: &[u32],
     place: Place,
+    what: Stated,
     value: u32,
     room: &mut [u32],
     at: usize,
 ) -> Built
     requires { ⌜ Ready (now file) (now source) (now known) (now store) × PlaceIn (now file) place × (at + startLevels (now file) place * treeWords ≤ length (now room)) ⌝ }
-    ensures { λ r. ⌜ Builds (now (file .entry)) (now (known .entry)) (now (store .entry)) flatten (constantOr (now (file .entry)) place value (defaultOf (now (file .entry)) place)) at (now (room .entry)) r (now (room .exit)) ⌝ }
+    ensures { λ r. ⌜ Builds (now (file .entry)) (now (known .entry)) (now (store .entry)) flatten (statedOr (now (file .entry)) what place value (defaultOf (now (file .entry)) place)) at (now (room .entry)) r (now (room .exit)) ⌝ }
 {
     if value == 0 {
         return default_of(file, source, known, store, place, room, at);
     }
-    constant_start(file, source, place, value - 1, room, at)
+    stated_start(file, source, place, what, value - 1, room, at)
 }
 
 // A constant, or the implicit default.
@@ -56,72 +57,12 @@ pub fn constant_or_implicit(
     at: usize,
 ) -> Built
     requires { ⌜ Ready (now file) (now source) (now known) (now store) × PlaceIn (now file) place × (at + implicitLevels (now file) place * treeWords ≤ length (now room)) ⌝ }
-    ensures { λ r. ⌜ Builds (now (file .entry)) (now (known .entry)) (now (store .entry)) flatten (constantOr (now (file .entry)) place value (Defaults.implicit (now (file .entry)) place)) at (now (room .entry)) r (now (room .exit)) ⌝ }
+    ensures { λ r. ⌜ Builds (now (file .entry)) (now (known .entry)) (now (store .entry)) flatten (statedOr (now (file .entry)) stated.Constant place value (Defaults.implicit (now (file .entry)) place)) at (now (room .entry)) r (now (room .exit)) ⌝ }
 {
     if value == 0 {
         return implicit(file, source, known, store, place, room, at);
     }
-    constant_start(file, source, place, value - 1, room, at)
-}
-
-// An enumerated value, or the default of the place.
-pub fn enumerated_or_default(
-    file: &[u32],
-    source: &[usize],
-    known: &[u32],
-    store: &[u32],
-    place: Place,
-    value: u32,
-    room: &mut [u32],
-    at: usize,
-) -> Built
-    requires { ⌜ Ready (now file) (now source) (now known) (now store) × PlaceIn (now file) place × (at + startLevels (now file) place * treeWords ≤ length (now room)) ⌝ }
-    ensures { λ r. ⌜ Builds (now (file .entry)) (now (known .entry)) (now (store .entry)) flatten (enumeratedOr (now (file .entry)) place value (defaultOf (now (file .entry)) place)) at (now (room .entry)) r (now (room .exit)) ⌝ }
-{
-    if value == 0 {
-        return default_of(file, source, known, store, place, room, at);
-    }
-    enumerated_start(file, source, place, value - 1, room, at)
-}
-
-// A reference, or the default of the place.
-pub fn reference_or_default(
-    file: &[u32],
-    source: &[usize],
-    known: &[u32],
-    store: &[u32],
-    place: Place,
-    value: u32,
-    room: &mut [u32],
-    at: usize,
-) -> Built
-    requires { ⌜ Ready (now file) (now source) (now known) (now store) × PlaceIn (now file) place × (at + startLevels (now file) place * treeWords ≤ length (now room)) ⌝ }
-    ensures { λ r. ⌜ Builds (now (file .entry)) (now (known .entry)) (now (store .entry)) flatten (referenceOr (now (file .entry)) value (defaultOf (now (file .entry)) place)) at (now (room .entry)) r (now (room .exit)) ⌝ }
-{
-    if value == 0 {
-        return default_of(file, source, known, store, place, room, at);
-    }
-    reference_start(file, source, value - 1, room, at)
-}
-
-// None where something is stated, else the default of the place.
-pub fn none_or_default(
-    file: &[u32],
-    source: &[usize],
-    known: &[u32],
-    store: &[u32],
-    place: Place,
-    value: u32,
-    room: &mut [u32],
-    at: usize,
-) -> Built
-    requires { ⌜ Ready (now file) (now source) (now known) (now store) × PlaceIn (now file) place × (at + startLevels (now file) place * treeWords ≤ length (now room)) ⌝ }
-    ensures { λ r. ⌜ Builds (now (file .entry)) (now (known .entry)) (now (store .entry)) flatten (noneOr value (defaultOf (now (file .entry)) place)) at (now (room .entry)) r (now (room .exit)) ⌝ }
-{
-    if value == 0 {
-        return default_of(file, source, known, store, place, room, at);
-    }
-    Built::None
+    stated_start(file, source, place, Stated::Constant, value - 1, room, at)
 }
 
 // An array of entries, or the default of the place.
@@ -229,12 +170,12 @@ pub fn constant_or_named(
     at: usize,
 ) -> Built
     requires { ⌜ Ready (now file) (now source) (now known) (now store) × PlaceIn (now file) place × Link (IsType (now file)) name × (at + treeWords ≤ length (now room)) ⌝ }
-    ensures { λ r. ⌜ Builds (now (file .entry)) (now (known .entry)) (now (store .entry)) flatten (constantOr (now (file .entry)) place value (nameDefault name)) at (now (room .entry)) r (now (room .exit)) ⌝ }
+    ensures { λ r. ⌜ Builds (now (file .entry)) (now (known .entry)) (now (store .entry)) flatten (statedOr (now (file .entry)) stated.Constant place value (nameDefault name)) at (now (room .entry)) r (now (room .exit)) ⌝ }
 {
     if value == 0 {
         return name_default(file, known, store, name, room, at);
     }
-    constant_start(file, source, place, value - 1, room, at)
+    stated_start(file, source, place, Stated::Constant, value - 1, room, at)
 }
 
 // An array of entries, or the default of a type that is named or spelled in place.

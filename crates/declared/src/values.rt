@@ -14,7 +14,7 @@ ghost use Rattle.laws.specs.Accepted.{Accepted};
 ghost use Rattle.records.specs.Starts.{StartsOf};
 ghost use Rattle.scalar.specs.Node.{resultOf};
 ghost use Rattle.places.specs.Inside.{PlaceIn};
-ghost use Rattle.declared.specs.Stated.{Lays};
+ghost use Rattle.declared.specs.Stated.{statedAs, Lays};
 use build::built::Built;
 use build::leaves::put_leaf;
 use definition::layout::ENTRIES;
@@ -26,6 +26,14 @@ use records::view::constant_at;
 use records::words::word;
 use scalar::node;
 use scalar::node::Leaf;
+
+// What a value's link leads to. A late resolved initializer states a constant that gives none.
+pub enum Stated {
+    Constant,
+    Enumerated,
+    Reference,
+    Nothing,
+}
 
 // A constant.
 pub fn constant_start(
@@ -46,7 +54,7 @@ pub fn constant_start(
 }
 
 // An enumerated value.
-pub fn enumerated_start(
+fn enumerated_start(
     file: &[u32],
     source: &[usize],
     place: Place,
@@ -75,12 +83,33 @@ fn reference_leaf(file: &[u32], source: &[usize], x: u32) -> Leaf
     Leaf::Value(node::reference(x))
 }
 
-pub fn reference_start(file: &[u32], source: &[usize], x: u32, room: &mut [u32], at: usize) -> Built
+fn reference_start(file: &[u32], source: &[usize], x: u32, room: &mut [u32], at: usize) -> Built
     requires { ⌜ StartsOf (now file) (now source) × (at + 6 ≤ length (now room)) ⌝ }
     ensures { λ r. ⌜ Lays (referenceAs (now (file .entry)) x) at (now (room .entry)) r (now (room .exit)) ⌝ }
 {
     let leaf = reference_leaf(file, source, x);
     put_leaf(leaf, room, at)
+}
+
+// The value that a place is stated to have.
+pub fn stated_start(
+    file: &[u32],
+    source: &[usize],
+    place: Place,
+    what: Stated,
+    n: u32,
+    room: &mut [u32],
+    at: usize,
+) -> Built
+    requires { ⌜ StartsOf (now file) (now source) × Accepted (now file) × PlaceIn (now file) place × (at + 6 ≤ length (now room)) ⌝ }
+    ensures { λ r. ⌜ Lays (statedAs (now (file .entry)) what place n) at (now (room .entry)) r (now (room .exit)) ⌝ }
+{
+    match what {
+        Stated::Constant => constant_start(file, source, place, n, room, at),
+        Stated::Enumerated => enumerated_start(file, source, place, n, room, at),
+        Stated::Reference => reference_start(file, source, n, room, at),
+        Stated::Nothing => Built::None,
+    }
 }
 
 pub fn null_start(room: &mut [u32], at: usize) -> Built

@@ -34,7 +34,8 @@ use Rattle.build.proofs.built.Built as built
 use Rattle.build.specs.Built.{answerOf, Gives, Builds, Memory}
 use Rattle.build.specs.Parts.{implicitLevels}
 use Rattle.build.proofs.Levels.{levels-some}
-use Rattle.declared.specs.Stated.{Lays, constantOr, arrayOr, membersOver, ArrayIn, MembersIn, AliasIn, SpecIn, StartIn, Over, aliasDefault, simpleDefault, baseDefault}
+use Rattle.declared.specs.declared.values.Stated.the-variants as stated
+use Rattle.declared.specs.Stated.{Lays, statedAs, statedOr, arrayOr, membersOver, ArrayIn, MembersIn, AliasIn, SpecIn, StartIn, Over, aliasDefault, simpleDefault, baseDefault}
 use Rattle.declared.specs.Rooms.{entryLevels, aliasLevelsBy, aliasLevels, simpleLevels}
 use Rattle.declared.proofs.Alike.{same, no-value}
 use Rattle.declared.proofs.stated.Laws.{implicit-some, implicit-tree, stated}
@@ -117,19 +118,19 @@ module _ (f : List ℕ) (i : ℕ) (place : Place) {v : Initializer} (q : v ≡ i
   by-view e = ap (aliasDefaultBy f place i) (sym q ∙ e)
 
   module _ {known store : List ℕ} {at : ℕ} {old : List ℕ} {r : Built} {new : List ℕ} where
-    pub alias-string : {value long width : ℕ} → v ≡ init.String value long width → Builds f known store flatten (constantOr f place value (implicit f place)) at old r new
+    pub alias-string : {value long width : ℕ} → v ≡ init.String value long width → Builds f known store flatten (statedOr f stated.Constant place value (implicit f place)) at old r new
         → Builds f known store flatten (aliasDefault f i place) at old r new
-    unfolding aliasDefaultBy constantOr
-    alias-string {value} e h = same (constantOr f place value (implicit f place)) (aliasDefault f i place) (by-view e) h
+    unfolding aliasDefaultBy statedOr statedAs
+    alias-string {value} e h = same (statedOr f stated.Constant place value (implicit f place)) (aliasDefault f i place) (by-view e) h
 
     module _ {name : ℕ} (w : name ≡ word f initializers i 1) where
       pub alias-subrange : {value : ℕ} → v ≡ init.Subrange value → Builds f known store flatten (specDefault f place name) at old r new → Builds f known store flatten (aliasDefault f i place) at old r new
       unfolding aliasDefaultBy namedType
       alias-subrange e h = same (specDefault f place name) (aliasDefault f i place) (by-view e ∙ rw (← w)) h
 
-      pub alias-simple : {value : ℕ} → v ≡ init.Simple value → Builds f known store flatten (constantOr f place value (nameDefault name)) at old r new → Builds f known store flatten (aliasDefault f i place) at old r new
-      unfolding aliasDefaultBy constantOr namedType
-      alias-simple {value} e h = same (constantOr f place value (nameDefault name)) (aliasDefault f i place) (by-view e ∙ rw (← w)) h
+      pub alias-simple : {value : ℕ} → v ≡ init.Simple value → Builds f known store flatten (statedOr f stated.Constant place value (nameDefault name)) at old r new → Builds f known store flatten (aliasDefault f i place) at old r new
+      unfolding aliasDefaultBy statedOr statedAs namedType
+      alias-simple {value} e h = same (statedOr f stated.Constant place value (nameDefault name)) (aliasDefault f i place) (by-view e ∙ rw (← w)) h
 
       module _ {first many : ℕ} where
         module _ (h : Builds f known store flatten (membersOver f place first many (nameDefault name)) at old r new) where

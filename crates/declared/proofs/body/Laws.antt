@@ -34,7 +34,8 @@ use Rattle.build.specs.declared.built.Built.the-variants.{None}
 use Rattle.build.specs.Built.{Builds}
 use Rattle.build.specs.Parts.{implicitLevels}
 use Rattle.build.proofs.Levels.{levels-some}
-use Rattle.declared.specs.Stated.{Lays, constantOr, arrayOr, ArrayIn, AliasIn, SpecIn, StartIn, elementStart, variableStart, partStart, isPart, partAsk, partsFrom, PartIn, PartsIn, simpleDefault, aliasDefault, baseDefault}
+use Rattle.declared.specs.declared.values.Stated.the-variants as stated
+use Rattle.declared.specs.Stated.{Lays, statedAs, statedOr, arrayOr, ArrayIn, AliasIn, SpecIn, StartIn, elementStart, variableStart, partStart, isPart, partAsk, partsFrom, PartIn, PartsIn, simpleDefault, aliasDefault, baseDefault}
 use Rattle.declared.specs.Rooms.{entryLevels, partsLevels, simpleLevels, bodyLevelsBy, bodyLevels}
 use Rattle.declared.proofs.Alike.{same, laid, no-value}
 use Rattle.declared.proofs.start.Laws.{max-left, max-right}
@@ -222,9 +223,9 @@ module _ (f : List ℕ) (t : ℕ) (place : Place) {d : Declaration} where
     unfolding bodyBy
     body-subrange {name} {start} e h = same (subrangeDefault f place name start) (bodyBy f t place d) (by-view e) h
 
-    pub body-string : {start : ℕ} → d ≡ decl.String start → Builds f known store flatten (constantOr f place start (implicit f place)) at old r new → Builds f known store flatten (bodyBy f t place d) at old r new
-    unfolding bodyBy constantOr
-    body-string {start} e h = same (constantOr f place start (implicit f place)) (bodyBy f t place d) (by-view e) h
+    pub body-string : {start : ℕ} → d ≡ decl.String start → Builds f known store flatten (statedOr f stated.Constant place start (implicit f place)) at old r new → Builds f known store flatten (bodyBy f t place d) at old r new
+    unfolding bodyBy statedOr statedAs
+    body-string {start} e h = same (statedOr f stated.Constant place start (implicit f place)) (bodyBy f t place d) (by-view e) h
 
     pub body-array : {name first many : ℕ} → d ≡ decl.Array name first many → Builds f known store flatten (arrayOr f place first many (specDefault f place name)) at old r new
         → Builds f known store flatten (bodyBy f t place d) at old r new

@@ -22,7 +22,8 @@ use Rattle.build.specs.declared.built.Built.{Built}
 use Rattle.build.specs.declared.built.Built.the-variants.{Ends, None}
 use Rattle.build.specs.Built.{Builds}
 use Rattle.build.specs.Parts.{implicitLevels, startLevels}
-use Rattle.declared.specs.Stated.{constantOr, enumeratedOr, referenceOr, noneOr, arrayOr, membersOver, ArrayIn, MembersIn}
+use Rattle.declared.specs.declared.values.Stated.the-variants as stated
+use Rattle.declared.specs.Stated.{statedAs, statedOr, arrayOr, membersOver, ArrayIn, MembersIn}
 use Rattle.declared.specs.Rooms.{entryLevels, initLevelsBy, initLevels}
 use Rattle.declared.proofs.Alike.{same, no-value}
 
@@ -101,35 +102,35 @@ module _ (f : List ℕ) (i : ℕ) (place : Place) {v : Initializer} (q : v ≡ i
     init-nothing e h = same (defaultOf f place) (initializer f i place) (by-view e) h
 
     module _ {value : ℕ} where
-      module _ (h : Builds f known store flatten (constantOr f place value (defaultOf f place)) at old r new) where
+      module _ (h : Builds f known store flatten (statedOr f stated.Constant place value (defaultOf f place)) at old r new) where
         pub init-subrange : v ≡ init.Subrange value → Builds f known store flatten (initializer f i place) at old r new
-        unfolding initializerBy constantOr
-        init-subrange e = same (constantOr f place value (defaultOf f place)) (initializer f i place) (by-view e) h
+        unfolding initializerBy statedOr statedAs
+        init-subrange e = same (statedOr f stated.Constant place value (defaultOf f place)) (initializer f i place) (by-view e) h
 
         pub init-simple : v ≡ init.Simple value → Builds f known store flatten (initializer f i place) at old r new
-        unfolding initializerBy constantOr
-        init-simple e = same (constantOr f place value (defaultOf f place)) (initializer f i place) (by-view e) h
+        unfolding initializerBy statedOr statedAs
+        init-simple e = same (statedOr f stated.Constant place value (defaultOf f place)) (initializer f i place) (by-view e) h
 
         pub init-string : {long width : ℕ} → v ≡ init.String value long width → Builds f known store flatten (initializer f i place) at old r new
-        unfolding initializerBy constantOr
-        init-string e = same (constantOr f place value (defaultOf f place)) (initializer f i place) (by-view e) h
+        unfolding initializerBy statedOr statedAs
+        init-string e = same (statedOr f stated.Constant place value (defaultOf f place)) (initializer f i place) (by-view e) h
 
-      module _ (h : Builds f known store flatten (enumeratedOr f place value (defaultOf f place)) at old r new) where
+      module _ (h : Builds f known store flatten (statedOr f stated.Enumerated place value (defaultOf f place)) at old r new) where
         pub init-values : v ≡ init.EnumeratedValues value → Builds f known store flatten (initializer f i place) at old r new
-        unfolding initializerBy enumeratedOr
-        init-values e = same (enumeratedOr f place value (defaultOf f place)) (initializer f i place) (by-view e) h
+        unfolding initializerBy statedOr statedAs
+        init-values e = same (statedOr f stated.Enumerated place value (defaultOf f place)) (initializer f i place) (by-view e) h
 
         pub init-type : v ≡ init.EnumeratedType value → Builds f known store flatten (initializer f i place) at old r new
-        unfolding initializerBy enumeratedOr
-        init-type e = same (enumeratedOr f place value (defaultOf f place)) (initializer f i place) (by-view e) h
+        unfolding initializerBy statedOr statedAs
+        init-type e = same (statedOr f stated.Enumerated place value (defaultOf f place)) (initializer f i place) (by-view e) h
 
-      pub init-reference : v ≡ init.Reference value → Builds f known store flatten (referenceOr f value (defaultOf f place)) at old r new → Builds f known store flatten (initializer f i place) at old r new
-      unfolding initializerBy referenceOr
-      init-reference e h = same (referenceOr f value (defaultOf f place)) (initializer f i place) (by-view e) h
+      pub init-reference : v ≡ init.Reference value → Builds f known store flatten (statedOr f stated.Reference place value (defaultOf f place)) at old r new → Builds f known store flatten (initializer f i place) at old r new
+      unfolding initializerBy statedOr statedAs
+      init-reference e h = same (statedOr f stated.Reference place value (defaultOf f place)) (initializer f i place) (by-view e) h
 
-      pub init-late : v ≡ init.LateResolved value → Builds f known store flatten (noneOr value (defaultOf f place)) at old r new → Builds f known store flatten (initializer f i place) at old r new
-      unfolding initializerBy noneOr
-      init-late e h = same (noneOr value (defaultOf f place)) (initializer f i place) (by-view e) h
+      pub init-late : v ≡ init.LateResolved value → Builds f known store flatten (statedOr f stated.Nothing place value (defaultOf f place)) at old r new → Builds f known store flatten (initializer f i place) at old r new
+      unfolding initializerBy statedOr statedAs
+      init-late e h = same (statedOr f stated.Nothing place value (defaultOf f place)) (initializer f i place) (by-view e) h
 
     module _ {first many : ℕ} where
       module _ (h : Builds f known store flatten (membersOver f place first many (defaultOf f place)) at old r new) where

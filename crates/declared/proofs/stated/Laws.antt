@@ -33,7 +33,8 @@ use Rattle.build.specs.Parts.{implicitLevels, startLevels}
 use Rattle.build.proofs.Peeks.{thenPeek, peek-then, NoEnd, gives-fails, EndsAt, gives-ends}
 use Rattle.build.proofs.Levels.{levels-implicit, levels-typed, levels-some}
 use Rattle.build.proofs.Smalls.{peek-to, default-small}
-use Rattle.declared.specs.Stated.{Lays, constantOr, enumeratedOr, referenceOr, noneOr, arrayOr, membersOver, SmallAt, Applies, SpecIn}
+use Rattle.declared.specs.declared.values.Stated.{Stated}
+use Rattle.declared.specs.Stated.{Lays, statedAs, statedOr, arrayOr, membersOver, SmallAt, Applies, SpecIn}
 use Rattle.declared.proofs.Alike.{same, laid, no-value}
 
 -- ---- a link that states something or not
@@ -42,46 +43,22 @@ stated value other go n = let z : value ≡ suc (value - 1) = omega (arith, n) i
 
 module _ {f known store : List ℕ} {at : ℕ} {old : List ℕ} {r : Built} {new : List ℕ} (value : ℕ) (other : Ask Outcome) where
   module _ (e : value ≡ 0) (h : Builds f known store flatten other at old r new) where
-    pub constant-other : (place : Place) → Builds f known store flatten (constantOr f place value other) at old r new
-    unfolding constantOr
-    constant-other place = same other (constantOr f place value other) (rw e) h
-
-    pub enumerated-other : (place : Place) → Builds f known store flatten (enumeratedOr f place value other) at old r new
-    unfolding enumeratedOr
-    enumerated-other place = same other (enumeratedOr f place value other) (rw e) h
-
-    pub reference-other : Builds f known store flatten (referenceOr f value other) at old r new
-    unfolding referenceOr
-    reference-other = same other (referenceOr f value other) (rw e) h
-
-    pub none-other : Builds f known store flatten (noneOr value other) at old r new
-    unfolding noneOr
-    none-other = same other (noneOr value other) (rw e) h
+    pub stated-other : (what : Stated) (place : Place) → Builds f known store flatten (statedOr f what place value other) at old r new
+    unfolding statedOr
+    stated-other what place = same other (statedOr f what place value other) (rw e) h
 
     pub array-other : (place : Place) (first : ℕ) → Builds f known store flatten (arrayOr f place first value other) at old r new
     unfolding arrayOr
     array-other place first = same other (arrayOr f place first value other) (rw e) h
 
   module _ (n : value ≡ 0 → ⊥) where
-    pub constant-stated : (place : Place) → Lays (constantAs f place (value - 1)) at old r new → Builds f known store flatten (constantOr f place value other) at old r new
-    unfolding constantOr
-    constant-stated place h = laid (constantAs f place (value - 1)) (constantOr f place value other) (stated value (λ u. other) (constantAs f place) n) h
-
-    pub enumerated-stated : (place : Place) → Lays (enumeratedAs f place (value - 1)) at old r new → Builds f known store flatten (enumeratedOr f place value other) at old r new
-    unfolding enumeratedOr
-    enumerated-stated place h = laid (enumeratedAs f place (value - 1)) (enumeratedOr f place value other) (stated value (λ u. other) (enumeratedAs f place) n) h
-
-    pub reference-stated : Lays (referenceAs f (value - 1)) at old r new → Builds f known store flatten (referenceOr f value other) at old r new
-    unfolding referenceOr
-    reference-stated h = laid (referenceAs f (value - 1)) (referenceOr f value other) (stated value (λ u. other) (referenceAs f) n) h
+    pub stated-value : (what : Stated) (place : Place) → Lays (statedAs f what place (value - 1)) at old r new → Builds f known store flatten (statedOr f what place value other) at old r new
+    unfolding statedOr
+    stated-value what place h = laid (statedAs f what place (value - 1)) (statedOr f what place value other) (stated value (λ u. other) (statedAs f what place) n) h
 
     pub array-stated : (place : Place) (first : ℕ) → Builds f known store flatten (arrayOf f place first value) at old r new → Builds f known store flatten (arrayOr f place first value other) at old r new
     unfolding arrayOr
     array-stated place first h = same (arrayOf f place first value) (arrayOr f place first value other) (rw (ne-eqb value 0 n)) h
-
-pub none-stated : {f known store : List ℕ} {at : ℕ} {old : List ℕ} (value : ℕ) (other : Ask Outcome) → (value ≡ 0 → ⊥) → Builds f known store flatten (noneOr value other) at old None old
-unfolding noneOr
-none-stated value other n = no-value (noneOr value other) (stated value (λ u. other) (λ c. nothing) n)
 
 -- ---- room
 pub start-some : (f : List ℕ) (place : Place) (at n : ℕ) → at + startLevels f place * 12288 ≤ n → at + 6 ≤ n
@@ -174,4 +151,4 @@ pub ready-starts : {f source known store : List ℕ} → Ready f source known st
 ready-starts y = y .accepted
 
 pub ruleset laws =
-    (needs, linked-type, constant-other, enumerated-other, reference-other, none-other, array-other, constant-stated, enumerated-stated, reference-stated, array-stated, none-stated, start-some, implicit-some, implicit-tree, name-none, name-typed, spec-inline, spec-named, spec-linked, over-fails, default-there, default-over, name-there, name-over)
+    (needs, linked-type, stated-other, array-other, stated-value, array-stated, start-some, implicit-some, implicit-tree, name-none, name-typed, spec-inline, spec-named, spec-linked, over-fails, default-there, default-over, name-there, name-over)
