@@ -25,7 +25,7 @@ use Rattle.places.specs.Inside.{PlaceIn, of-in, field-in, variable-in, type-sha
 use Rattle.definition.specs.Tree.{treeWords}
 use Rattle.build.specs.Parts.{placeDepth, implicitLevels, startLevels}
 use Rattle.build.proofs.Levels.{levels-most, depth-under}
-use Rattle.entries.specs.Room.{shapesDeep}
+use Rattle.gather.specs.Room.{shapesDeep}
 use Rattle.entries.proofs.Levels.{rooms-within}
 use Rattle.declared.specs.Rooms.{entryLevels, initLevelsBy, initLevels, foundLevels, variableLevels, elementLevels, partLevels, partsLevels, aliasLevelsBy, aliasLevels, simpleLevels, bodyLevelsBy, bodyLevels}
 

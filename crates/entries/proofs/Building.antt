@@ -53,28 +53,29 @@ use Rattle.tree.specs.Part.{place}
 use Rattle.tree.proofs.Fields.{found-place, find-there, fieldAt, place-none, place-named, Named}
 use Rattle.tree.proofs.Stands.{stand-kept}
 use Rattle.tree.proofs.Standing.{wrote-so-is}
-use Rattle.entries.proofs.answers.Listed as listed-tags
+use Rattle.gather.proofs.answers.Listed as listed-tags
 use Rattle.build.proofs.built.Built as built-tags
-use Rattle.entries.proofs.copies.Target as target-tags
+use Rattle.gather.proofs.copies.Target as target-tags
 use Rattle.build.specs.declared.built.Built.{Built}
 use Rattle.build.specs.declared.built.Built.the-variants as built
-use Rattle.entries.specs.declared.answers.Listed.{Listed}
-use Rattle.entries.specs.declared.answers.Listed.the-variants as listed
-use Rattle.entries.specs.declared.answers.Filling.{Filling}
-use Rattle.entries.specs.declared.copies.Target.{Target}
-use Rattle.entries.specs.declared.copies.Target.the-variants as target
-use Rattle.entries.specs.Answers.{TreeThere, Builds, ListThere, Lists, Placed, Filled}
+use Rattle.gather.specs.declared.answers.Listed.{Listed}
+use Rattle.gather.specs.declared.answers.Listed.the-variants as listed
+use Rattle.gather.specs.declared.answers.Filling.{Filling}
+use Rattle.gather.specs.declared.copies.Target.{Target}
+use Rattle.gather.specs.declared.copies.Target.the-variants as target
+use Rattle.gather.specs.Answers.{TreeThere, Builds, ListThere, Lists, Placed, Filled}
 use Rattle.build.specs.Built.{Memory}
-use Rattle.entries.specs.Room.{Given, Known, shapesDeep, rooms, Defaults, Ready, Structure, Current, whole}
-use Rattle.entries.specs.Leaves.{simpleOf, pushed, PushesTree, PushesSimple, PutsSimple}
-use Rattle.entries.specs.Copies.{Taken, Takes, TakesFirst, CopiesStructure, CopiesDefault, Remains, PushesCopies, PushesDefaults, defaultedOf, FillsRest, Heads, SetThere, Sets, SetsKept, Targets, Finds, PutsMember}
-use Rattle.entries.specs.Entries.{runDepth, RoomThere, DefaultsThere, RunThere, ValuesThere, FieldsThere, ValueThere, ElementDefaults, Expands, Repeats, RepeatsEntry, ExpandsStructure, ExpandsAll, BuildsArray, valuesOf, FillsArray, FillsValues, Applies, memberStep, SetsMember, BuildsMember, BuildsStructure}
-use Rattle.entries.proofs.Onward.{take-less, builds-as, lists-as, builds-same, lists-same}
-use Rattle.entries.proofs.Copying.{next-few, rest-zero}
-use Rattle.entries.proofs.Gathering.{SoFar, so-far-none, so-far-more, so-far-fails, so-far-all, now-at, defaults-kept}
+use Rattle.gather.specs.Room.{RoomThere, Given, Known, shapesDeep, rooms, Defaults, Ready, Structure, Current, whole}
+use Rattle.gather.specs.Leaves.{simpleOf, pushed, PushesTree, PushesSimple, PutsSimple}
+use Rattle.gather.specs.Elements.{ElementDefaults}
+use Rattle.gather.specs.Copies.{Taken, Takes, TakesFirst, CopiesStructure, CopiesDefault, Remains, PushesCopies, PushesDefaults, defaultedOf, FillsRest, Heads, SetThere, Sets, SetsKept, Targets, Finds, PutsMember}
+use Rattle.entries.specs.Entries.{runDepth, EntryLink, DefaultsThere, RunThere, ValuesThere, FieldsThere, ValueThere, Expands, Repeats, RepeatsEntry, ExpandsStructure, ExpandsAll, BuildsArray, valuesOf, FillsArray, FillsValues, Applies, memberStep, SetsMember, BuildsMember, BuildsStructure}
+use Rattle.gather.proofs.Onward.{take-less, builds-as, lists-as, builds-same, lists-same}
+use Rattle.gather.proofs.Copying.{next-few, rest-zero}
+use Rattle.gather.proofs.Gathering.{SoFar, so-far-none, so-far-more, so-far-fails, so-far-all, now-at, defaults-kept}
 use Rattle.entries.proofs.Entering.{lower, ready-less, current-less, structure-init, structure-depth, array-init, array-depth}
 use Rattle.entries.proofs.Nesting.{fields-some, fields-none, then-same}
-use Rattle.entries.proofs.Single.{node-kept}
+use Rattle.gather.proofs.Single.{node-kept}
 use Rattle.laws.specs.Binds.{then-assoc}
 use Rattle.laws.specs.Gathers.{small-structure}
 use mathlib.Core.Path.{fun-ext}

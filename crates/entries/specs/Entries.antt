@@ -2,10 +2,12 @@
 -- are read, the answer and the words are those of the definition's computation (specs/Defaults.antt).
 use mathlib.Core.Path.{_≡_}
 use mathlib.Core.List.{List}
-use Prim.Native.Nat.{ℕ, suc, _+_, _-_, _*_, _≤_}
+use Prim.Native.Nat.{ℕ, suc, _+_, _-_, _*_, _≤_, _<_}
 use lib.ListN.{length}
 use Rattle.definition.specs.declared.records.Place.{Place}
 use Rattle.definition.specs.Base.{onLink}
+use Rattle.definition.specs.Layout as Layout
+use Rattle.definition.specs.Layout.{entries}
 use Rattle.definition.specs.Records.{entryName}
 use Rattle.definition.specs.Syntax.{Init, initAt, initsAt}
 use Rattle.definition.specs.Tree.{Tree, Trees, many, flattenAll, named}
@@ -16,23 +18,25 @@ use Rattle.definition.specs.Defaults.{onNamed, defaultOf, elementDefaults, expa
 use Rattle.definition.specs.Resolve.{Memo}
 use Rattle.definition.specs.Depth.{deepest, entryDepth}
 use Rattle.laws.specs.Gathers.{Gathered}
+use Rattle.laws.specs.Links.{Link}
 use Rattle.tree.specs.Words.{Stand}
 use Rattle.build.specs.declared.built.Built.{Built}
-use Rattle.entries.specs.declared.answers.Listed.{Listed}
-use Rattle.entries.specs.declared.answers.Filling.{Filling}
-use Rattle.entries.specs.Answers.{Lists, Placed, Filled}
+use Rattle.gather.specs.declared.answers.Listed.{Listed}
+use Rattle.gather.specs.declared.answers.Filling.{Filling}
+use Rattle.gather.specs.Answers.{Lists, Placed, Filled}
 use Rattle.build.specs.Built.{Memory}
-use Rattle.entries.specs.Room.{shapesDeep, rooms, Ready, Structure, Current, whole}
-use Rattle.entries.specs.Copies.{SetsKept}
+use Rattle.gather.specs.Room.{shapesDeep, rooms, Ready, Structure, Current, whole}
+use Rattle.gather.specs.Copies.{SetsKept}
 
 -- how deep a run of entries nests
 abbrev pub runDepth : List ℕ → ℕ → ℕ → ℕ
 runDepth f first count = deepest (entryDepth f) first count
 
--- ---- what stands, and the room behind it: what the calls ask for
-pub record RoomThere (s : List ℕ) (at need : ℕ) : Type 0 where
-  pub room : at + need ≤ length s
+-- a link to an entry, or none
+pub record EntryLink (f : List ℕ) (l : ℕ) : Type 0 where
+  pub inside : Link (λ e. e < Layout.count f entries) l
 
+-- ---- what stands, and the room behind it: what the calls ask for
 pub record DefaultsThere (s : List ℕ) (l : Filling) (at need : ℕ) : Type 0 where
   pub trees : Trees
   pub ready : Ready s l at need trees
@@ -56,10 +60,6 @@ pub record FieldsThere (s : List ℕ) (at end need : ℕ) : Type 0 where
 pub record ValueThere (s : List ℕ) (begin end at need : ℕ) : Type 0 where
   pub tree : Tree
   pub there : Current s begin end tree at need
-
--- ---- the defaults of an array's elements
-pub record ElementDefaults (f known store : List ℕ) (place : Place) (old : List ℕ) (at : ℕ) (r : Listed) (new : List ℕ) : Type 0 where
-  pub says : (M : Memo) → Memory f known store M → at + (12282 + 24576 * shapesDeep f) ≤ length old → Filled M (elementDefaults f (defaultOf f) place) whole old at r new
 
 -- ---- entries of an array
 pub record Expands (f known store : List ℕ) (e : ℕ) (leaf : Place) (l : Filling) (old : List ℕ) (at : ℕ) (r : Listed) (new : List ℕ) : Type 0 where

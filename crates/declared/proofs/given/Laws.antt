@@ -32,11 +32,11 @@ use Rattle.tree.proofs.Standing.{headed-there}
 use Rattle.build.specs.declared.built.Built.{Built}
 use Rattle.build.specs.declared.built.Built.the-variants as built
 use Rattle.build.specs.Built.{Gives, Builds, Ready}
-use Rattle.entries.specs.Answers as answers
-use Rattle.entries.specs.Room.{Given, Known, shapesDeep, rooms, Structure}
-use Rattle.entries.specs.Entries.{runDepth, RoomThere, FieldsThere, BuildsArray}
+use Rattle.gather.specs.Answers as answers
+use Rattle.gather.specs.Room.{Given, Known, RoomThere, shapesDeep, rooms, Structure}
+use Rattle.entries.specs.Entries.{runDepth, FieldsThere, BuildsArray}
 use Rattle.entries.specs.Entries as entering
-use Rattle.entries.proofs.Single.{node-kept}
+use Rattle.gather.proofs.Single.{node-kept}
 use Rattle.declared.specs.Stated.{ArrayIn, MembersIn, SmallAt, Applies}
 use Rattle.declared.specs.Rooms.{entryLevels}
 

@@ -1,0 +1,17 @@
+use Rattle.gather.proofs.Copying.{laws}
+use Rattle.gather.proofs.copies.next_default.Statement.{statement}
+use Rattle.gather.proofs.copies.next_default.Tie as tie
+
+pub next-default-spec : {M : Type 1} → statement M
+next-default-spec =
+    tie.close
+    (tie.spec
+    (λ c κs. search laws)
+    (λ c. search laws)
+    (λ c κs. search laws)
+    (λ c. search laws)
+    (λ c. search laws)
+    (λ c. search laws)
+    (λ c. search laws)
+    (λ c. search laws)
+    (λ c. search laws))
