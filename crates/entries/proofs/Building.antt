@@ -64,8 +64,8 @@ use Rattle.gather.specs.declared.answers.Filling.{Filling}
 use Rattle.gather.specs.declared.copies.Target.{Target}
 use Rattle.gather.specs.declared.copies.Target.the-variants as target
 use Rattle.gather.specs.Answers.{TreeThere, Builds, ListThere, Lists, Placed, Filled}
-use Rattle.build.specs.Built.{Memory}
-use Rattle.gather.specs.Room.{RoomThere, Given, Known, shapesDeep, rooms, Defaults, Ready, Structure, Current, whole}
+use Rattle.build.specs.Built.{Memory, Ready}
+use Rattle.gather.specs.Room.{RoomThere, shapesDeep, rooms, Defaults, Fillable, Structure, Current, whole}
 use Rattle.gather.specs.Leaves.{simpleOf, pushed, PushesTree, PushesSimple, PutsSimple}
 use Rattle.gather.specs.Elements.{ElementDefaults}
 use Rattle.gather.specs.Copies.{Taken, Takes, TakesFirst, CopiesStructure, CopiesDefault, Remains, PushesCopies, PushesDefaults, defaultedOf, FillsRest, Heads, SetThere, Sets, SetsKept, Targets, Finds, PutsMember}
@@ -73,7 +73,7 @@ use Rattle.entries.specs.Entries.{runDepth, EntryLink, DefaultsThere, Ru
 use Rattle.gather.proofs.Onward.{take-less, builds-as, lists-as, builds-same, lists-same}
 use Rattle.gather.proofs.Copying.{next-few, rest-zero}
 use Rattle.gather.proofs.Gathering.{SoFar, so-far-none, so-far-more, so-far-fails, so-far-all, now-at, defaults-kept}
-use Rattle.entries.proofs.Entering.{lower, ready-less, current-less, structure-init, structure-depth, array-init, array-depth}
+use Rattle.entries.proofs.Entering.{lower, fillable-less, current-less, structure-init, structure-depth, array-init, array-depth}
 use Rattle.entries.proofs.Nesting.{fields-some, fields-none, then-same}
 use Rattle.gather.proofs.Single.{node-kept}
 use Rattle.laws.specs.Binds.{then-assoc}
@@ -195,7 +195,7 @@ module _ (f known store : List ℕ) (p : Place) (first many : ℕ) (old : List �
       go M listed.TooLarge o h = peek-large M (elementDefaults f (defaultOf f) p) (λ ds. valuesOf f p first many ds) h
       go M (listed.Wanted n) o h = peek-wanted M (elementDefaults f (defaultOf f) p) (λ ds. valuesOf f p first many ds) n h
 
-  module _ {source : List ℕ} (gv : Given f source known) (pin : PlaceIn f p) {end places size : ℕ} (q : d ≡ listed.Ends end places size) (g : length mid ≡ length old) {r : Listed} {new : List ℕ}
+  module _ {source : List ℕ} (gv : Ready f source known store) (pin : PlaceIn f p) {end places size : ℕ} (q : d ≡ listed.Ends end places size) (g : length mid ≡ length old) {r : Listed} {new : List ℕ}
       (w : FillsValues f known store p first many places mid end r new) where
     pub fill-filled : FillsArray f known store p first many old r new
     fill-filled =
@@ -278,7 +278,7 @@ module _ {f known store : List ℕ} {first many : ℕ} {p : Place} {old : List �
             };
       }
 
-  module _ {source : List ℕ} (gv : Given f source known) (hr : first + many ≤ count f entries) (h : i < many) {r : Built} {new : List ℕ}
+  module _ {source : List ℕ} (gv : Ready f source known store) (hr : first + many ≤ count f entries) (h : i < many) {r : Built} {new : List ℕ}
       (w : SetsMember f known store (first + i) p s at upto r new) where
     apply-ready : (M : Memo) (k : Memory f known store M) (fields : Trees) (z : Structure old at end (rooms f (runDepth f first many)) fields)
         → Structure s at upto (12288 + rooms f (entryDepth f (first + i) - 1)) (y .says M k fields z .now)
@@ -478,7 +478,7 @@ member-array-is : (f : List ℕ) (first many : ℕ) (p : Place) (t : Tree) → D
 unfolding expand arrayOf
 member-array-is f first many p t = refl
 
-module _ {f source known : List ℕ} (g : Given f source known) (store : List ℕ) (e : ℕ) (h : e < count f entries) {x : Entry} (is : x ≡ entryAt f e)
+module _ {f source known store : List ℕ} (g : Ready f source known store) (e : ℕ) (h : e < count f entries) {x : Entry} (is : x ≡ entryAt f e)
     {p : Place} (begin upto : ℕ) {old : List ℕ} {at : ℕ} {r : Built} {new : List ℕ} where
   pub member-array : {first many : ℕ} → x ≡ entry.Array first many → BuildsArray f known store p first many old at r new → BuildsMember f known store e p begin upto old at r new
   member-array {first} {many} q w =
@@ -552,9 +552,9 @@ module _ (f : List ℕ) (first many : ℕ) where
   elements-there y = record { room = omega (arith, y .room) }
 
   pub values-there : {known store : List ℕ} {p : Place} {old : List ℕ} {d : Listed} {mid : List ℕ} → ElementDefaults f known store p old 0 d mid → {end places size : ℕ} → d ≡ listed.Ends end places size
-      → length mid ≡ length old → Known f known store → RoomThere old 0 (12282 + 24576 * (runDepth f first many + shapesDeep f)) → ValuesThere f first many places mid end
-  values-there {known} {store} {p} {old} {d} {mid} u q g kn y =
-      let t = lists-as (kn .memo) (elementDefaults f (defaultOf f) p) whole 0 mid q (u .says (kn .memo) (kn .memory) (omega (arith, y .room)) .lists) in
+      → length mid ≡ length old → {source : List ℕ} → Ready f source known store → RoomThere old 0 (12282 + 24576 * (runDepth f first many + shapesDeep f)) → ValuesThere f first many places mid end
+  values-there {known} {store} {p} {old} {d} {mid} u q g gv y =
+      let t = lists-as (gv .memo) (elementDefaults f (defaultOf f) p) whole 0 mid q (u .says (gv .memo) (gv .memory) (omega (arith, y .room)) .lists) in
       record { trees = t .trees; stands = t .stands; small = t .small; counts = omega (arith, t .counts); room = omega (arith, y .room, t .ends, t .small .room) }
 
   pub run-there : {places : ℕ} {s : List ℕ} {end : ℕ} → ValuesThere f first many places s end → RunThere f first many s (record { from = 0; places = places; made = 0; size = 0 }) end
@@ -566,10 +566,10 @@ module _ (f : List ℕ) (first many : ℕ) where
       }
 
 pub apply-there : {f known store : List ℕ} {first many : ℕ} {p : Place} {old : List ℕ} {at end i upto : ℕ} {s : List ℕ} → ApplyInv f known store first many p old at end i upto s
-    → {source : List ℕ} → Given f source known → first + many ≤ count f entries → i < many → Known f known store → FieldsThere old at end (rooms f (runDepth f first many))
+    → {source : List ℕ} → Ready f source known store → first + many ≤ count f entries → i < many → FieldsThere old at end (rooms f (runDepth f first many))
     → FieldsThere s at upto (12288 + rooms f (entryDepth f (first + i) - 1))
-apply-there {f} {known} {store} {first} {many} {p} {old} {at} {end} {i} {upto} {s} y gv hr h kn z =
-    let v = y .says (kn .memo) (kn .memory) (z .fields) (z .there) in
+apply-there {f} {known} {store} {first} {many} {p} {old} {at} {end} {i} {upto} {s} y gv hr h z =
+    let v = y .says (gv .memo) (gv .memory) (z .fields) (z .there) in
     let d = deepest-at (entryDepth f) first many (first + i) (omega arith) (omega arith) in
     record { fields = v .now; there = record { stands = v .stands; whole = v .small; room = omega (arith, z .there .room, y .long, entry-depth-least f (gv .accepted) (first + i) (omega arith)) } }
 

@@ -64,8 +64,8 @@ use Rattle.gather.specs.declared.answers.Filling.{Filling}
 use Rattle.gather.specs.declared.copies.Target.{Target}
 use Rattle.gather.specs.declared.copies.Target.the-variants as target
 use Rattle.gather.specs.Answers.{TreeThere, Builds, ListThere, Lists, Placed, Filled}
-use Rattle.build.specs.Built.{Memory}
-use Rattle.gather.specs.Room.{RoomThere, Given, shapesDeep, rooms, Defaults, Ready, Structure, Current, whole}
+use Rattle.build.specs.Built.{Memory, Ready}
+use Rattle.gather.specs.Room.{RoomThere, shapesDeep, rooms, Defaults, Fillable, Structure, Current, whole}
 use Rattle.gather.specs.Leaves.{simpleOf, pushed, PushesTree, PushesSimple, PutsSimple}
 use Rattle.gather.specs.Elements.{ElementDefaults}
 use Rattle.gather.specs.Copies.{Taken, Takes, TakesFirst, CopiesStructure, CopiesDefault, Remains, PushesCopies, PushesDefaults, defaultedOf, FillsRest, Heads, SetThere, Sets, SetsKept, Targets, Finds, PutsMember}
@@ -126,7 +126,7 @@ module _ (f : List ℕ) (a : Accepted f) (e : ℕ) (h : e < count f entries) {x 
         go (suc i) p = omega (arith, p .0)
 
 -- ---- what falls, and what the calls require
-module _ {f source known : List ℕ} (g : Given f source known) where
+module _ {f source known store : List ℕ} (g : Ready f source known store) where
   module _ (e : ℕ) (h : e < count f entries) {x : Entry} (is : x ≡ entryAt f e) where
     pub structure-falls : {first many : ℕ} → x ≡ entry.Structure first many → {t : ℕ} → 16 * entryDepth f e + 1 ≡ t → 16 * deepest (entryDepth f) first many + 15 < t
     structure-falls q m = omega (arith, structure-depth f (g .accepted) e h is q)
@@ -169,12 +169,12 @@ run-falls f first many i h m = omega (arith, deepest-at (entryDepth f) first man
 pub members-fall : (f : List ℕ) (first many i : ℕ) → i < many → {t : ℕ} → 16 * deepest (entryDepth f) first many + 14 ≡ t → 16 * entryDepth f (first + i) + 13 < t
 members-fall f first many i h m = omega (arith, deepest-at (entryDepth f) first many (first + i) (omega arith) (omega arith))
 
-pub leaf-inside : {f source known : List ℕ} → Given f source known → {p : Place} → PlaceIn f p → {leaf : Place} → leaf ≡ leafPlace f p → PlaceIn f leaf
+pub leaf-inside : {f source known store : List ℕ} → Ready f source known store → {p : Place} → PlaceIn f p → {leaf : Place} → leaf ≡ leafPlace f p → PlaceIn f leaf
 leaf-inside {f} g {p} i e = rw e (leaf-in f (g .accepted) p i)
 
 -- ---- less room
-pub ready-less : {s : List ℕ} {l : Filling} {at n : ℕ} {ds : Trees} → Ready s l at n ds → (m : ℕ) → m ≤ n → Ready s l at m ds
-ready-less y m h = record { defaults = y .defaults; few = y .few; small = y .small; room = omega (arith, y .room) }
+pub fillable-less : {s : List ℕ} {l : Filling} {at n : ℕ} {ds : Trees} → Fillable s l at n ds → (m : ℕ) → m ≤ n → Fillable s l at m ds
+fillable-less y m h = record { defaults = y .defaults; few = y .few; small = y .small; room = omega (arith, y .room) }
 
 pub current-less : {s : List ℕ} {b e : ℕ} {t : Tree} {at n : ℕ} → Current s b e t at n → (m : ℕ) → m ≤ n → Current s b e t at m
 current-less y m h = record { stands = y .stands; before = y .before; good = y .good; few = y .few; room = omega (arith, y .room) }
@@ -199,15 +199,15 @@ simple-is M f below leaf l ds n (entry.Repeat many inner) o b = absurd (miss sim
 simple-is M f below leaf l ds n entry.Unknown o b =
     peek-nothing M ∙ sym (peek-none M (done none) (λ t. added (l .places) (l .made) (l .size) (one t)) (peek-done M none))
 
-module _ {f source known : List ℕ} (g : Given f source known) (store : List ℕ) (e : ℕ) (h : e < count f entries) {x : Entry} (is : x ≡ entryAt f e)
+module _ {f source known store : List ℕ} (g : Ready f source known store) (e : ℕ) (h : e < count f entries) {x : Entry} (is : x ≡ entryAt f e)
     {leaf : Place} {l : Filling} {old : List ℕ} {at : ℕ} {r : Listed} {new : List ℕ} where
   pub expand-structure : {first many : ℕ} → x ≡ entry.Structure first many → ExpandsStructure f known store first many leaf l old at r new → Expands f known store e leaf l old at r new
   expand-structure {first} {many} q w =
-      record { says = λ M k ds y. rw (structure-init f (g .accepted) e h is q) (w .says M k ds (ready-less y (rooms f (runDepth f first many)) (omega (arith, structure-depth f (g .accepted) e h is q)))) }
+      record { says = λ M k ds y. rw (structure-init f (g .accepted) e h is q) (w .says M k ds (fillable-less y (rooms f (runDepth f first many)) (omega (arith, structure-depth f (g .accepted) e h is q)))) }
 
   pub expand-repeat : {many inner : ℕ} → x ≡ entry.Repeat many inner → Repeats f known store many inner leaf l old at r new → Expands f known store e leaf l old at r new
   expand-repeat {many} {inner} q w =
-      record { says = λ M k ds y. rw (repeat-init f (g .accepted) e h is q) (w .says M k ds (ready-less y (rooms f (onLink inner 0 (entryDepth f))) (omega (arith, repeat-depth f (g .accepted) e h is q)))) }
+      record { says = λ M k ds y. rw (repeat-init f (g .accepted) e h is q) (w .says M k ds (fillable-less y (rooms f (onLink inner 0 (entryDepth f))) (omega (arith, repeat-depth f (g .accepted) e h is q)))) }
 
   pub expand-simple : OneOf simples (tagOf entry-tags.the-type x) → PushesSimple f e leaf l old at r new → Expands f known store e leaf l old at r new
   expand-simple o w =
@@ -227,7 +227,7 @@ module _ {f source known : List ℕ} (g : Given f source known) (store : List �
 module _ {f known store : List ℕ} (k link : ℕ) {leaf : Place} {l : Filling} {old : List ℕ} {at : ℕ} {r : Listed} {new : List ℕ} where
   pub repeats-defaults : link ≡ 0 → PushesDefaults k l old at r new → Repeats f known store k link leaf l old at r new
   unfolding expand
-  repeats-defaults q w = record { says = λ M kn ds y. rw q (w .says M ds (ready-less y 12288 (omega arith))) }
+  repeats-defaults q w = record { says = λ M kn ds y. rw q (w .says M ds (fillable-less y 12288 (omega arith))) }
 
   pub repeats-entry : (link ≡ 0 → ⊥) → RepeatsEntry f known store k (link - 1) leaf l old at r new → Repeats f known store k link leaf l old at r new
   repeats-entry n w = go link n w
@@ -273,13 +273,13 @@ module _ {f known store : List ℕ} (k e : ℕ) {leaf : Place} {l : Filling} {at
         }
 
 -- ---- what stands for the calls
-module _ {f source known : List ℕ} (g : Given f source known) (e : ℕ) (h : e < count f entries) {x : Entry} (is : x ≡ entryAt f e) {s : List ℕ} where
+module _ {f source known store : List ℕ} (g : Ready f source known store) (e : ℕ) (h : e < count f entries) {x : Entry} (is : x ≡ entryAt f e) {s : List ℕ} where
   module _ {l : Filling} {at : ℕ} (y : DefaultsThere s l at (rooms f (entryDepth f e - 1))) where
     pub structure-there : {first many : ℕ} → x ≡ entry.Structure first many → DefaultsThere s l at (rooms f (runDepth f first many))
-    structure-there {first} {many} q = record { trees = y .trees; ready = ready-less (y .ready) (rooms f (runDepth f first many)) (omega (arith, structure-depth f (g .accepted) e h is q)) }
+    structure-there {first} {many} q = record { trees = y .trees; ready = fillable-less (y .ready) (rooms f (runDepth f first many)) (omega (arith, structure-depth f (g .accepted) e h is q)) }
 
     pub repeat-there : {many inner : ℕ} → x ≡ entry.Repeat many inner → DefaultsThere s l at (rooms f (onLink inner 0 (entryDepth f)))
-    repeat-there {many} {inner} q = record { trees = y .trees; ready = ready-less (y .ready) (rooms f (onLink inner 0 (entryDepth f))) (omega (arith, repeat-depth f (g .accepted) e h is q)) }
+    repeat-there {many} {inner} q = record { trees = y .trees; ready = fillable-less (y .ready) (rooms f (onLink inner 0 (entryDepth f))) (omega (arith, repeat-depth f (g .accepted) e h is q)) }
 
   module _ {begin upto at : ℕ} (y : ValueThere s begin upto at (rooms f (entryDepth f e - 1))) where
     pub member-there : {first many : ℕ} → x ≡ entry.Structure first many → ValueThere s begin upto at (rooms f (runDepth f first many))

@@ -64,8 +64,8 @@ use Rattle.gather.specs.declared.answers.Filling.{Filling}
 use Rattle.gather.specs.declared.copies.Target.{Target}
 use Rattle.gather.specs.declared.copies.Target.the-variants as target
 use Rattle.gather.specs.Answers.{TreeThere, Builds, ListThere, Lists, Placed, Filled}
-use Rattle.build.specs.Built.{Memory}
-use Rattle.gather.specs.Room.{RoomThere, Given, Known, shapesDeep, rooms, Defaults, Ready, Structure, Current, whole}
+use Rattle.build.specs.Built.{Memory, Ready}
+use Rattle.gather.specs.Room.{RoomThere, shapesDeep, rooms, Defaults, Fillable, Structure, Current, whole}
 use Rattle.gather.specs.Leaves.{simpleOf, pushed, PushesTree, PushesSimple, PutsSimple}
 use Rattle.gather.specs.Elements.{ElementDefaults}
 use Rattle.gather.specs.Copies.{Taken, Takes, TakesFirst, CopiesStructure, CopiesDefault, MovesOn, Remains, PushesCopies, PushesDefaults, defaultedOf, FillsRest, Heads, SetThere, Sets, SetsKept, Targets, Finds, PutsMember}
@@ -73,7 +73,7 @@ use Rattle.entries.specs.Entries.{runDepth, EntryLink, DefaultsThere, Ru
 use Rattle.gather.proofs.Onward.{take-less, builds-as, lists-as, builds-same, lists-same}
 use Rattle.gather.proofs.Copying.{next-few}
 use Rattle.gather.proofs.Gathering.{SoFar, so-far-none, so-far-more, so-far-fails, so-far-all, now-at, Along, along-ready, along-next}
-use Rattle.entries.proofs.Entering.{ready-less, current-less, structure-init, structure-depth, array-init, array-depth}
+use Rattle.entries.proofs.Entering.{fillable-less, current-less, structure-init, structure-depth, array-init, array-depth}
 
 -- ---- `push_structure`
 pub fields-some : (M : Memo) (t : Tree) (go : Trees → Ask Outcome) → head t .kind ≡ 14 → peek M (onFields t go) ≡ peek M (go (parts t))
@@ -111,14 +111,14 @@ module _ (f known store : List ℕ) (first many : ℕ) (leaf : Place) (l : Filli
   module _ {end : ℕ} (q : b ≡ built.Ends end) (g : length mid ≡ length old) {r : Built} {new : List ℕ} (w : Applies f known store first many leaf mid at end r new)
       {r' : Listed} (z : PushesTree r l at r') where
     pub structure-pushed : ExpandsStructure f known store first many leaf l old at r' new
-    structure-pushed = record { says = λ M k ds y. go M k ds y (rest (l .made) ds) refl (c .says ds (ready-less y 12288 (omega arith))) }
+    structure-pushed = record { says = λ M k ds y. go M k ds y (rest (l .made) ds) refl (c .says ds (fillable-less y 12288 (omega arith))) }
       where
-        go : (M : Memo) → Memory f known store M → (ds : Trees) → Ready old l at (rooms f (runDepth f first many)) ds → (us : Trees) → rest (l .made) ds ≡ us → TakesFirst us at b mid
+        go : (M : Memo) → Memory f known store M → (ds : Trees) → Fillable old l at (rooms f (runDepth f first many)) ds → (us : Trees) → rest (l .made) ds ≡ us → TakesFirst us at b mid
             → Filled M (expand f (Init.structure (initsAt f first many)) leaf ds (l .made) (l .size)) l old at r' new
         go M k ds y tnil e h = let n : _≡_ {A = ℕ} 0 1 = cc in absurd (omega arith)
         go M k ds y (tcons t us) e h =
             let d : Taken t at end mid = rw q at h in
-            let y' = ready-less y 12288 (omega arith) in
+            let y' = fillable-less y 12288 (omega arith) in
             let v = w .says M k (parts t)
             (record { stands = d .stands; whole = gathered-parts t (first-good (l .made) ds (y .defaults .whole) t us e) (next-few y' t us e); room = omega (arith, y .room) }) in
             let ms = Defs.members f (initsAt f first many) leaf in
@@ -132,9 +132,9 @@ module _ (f known store : List ℕ) (first many : ℕ) (leaf : Place) (l : Filli
             }
 
   pub structure-fails : OneOf (1 ∷ 2 ∷ 3 ∷ []) (tagOf built-tags.the-type b) → ExpandsStructure f known store first many leaf l old at listed.None mid
-  structure-fails o = record { says = λ M k ds y. go M ds y (rest (l .made) ds) refl b o (c .says ds (ready-less y 12288 (omega arith))) }
+  structure-fails o = record { says = λ M k ds y. go M ds y (rest (l .made) ds) refl b o (c .says ds (fillable-less y 12288 (omega arith))) }
     where
-      go : (M : Memo) (ds : Trees) → Ready old l at (rooms f (runDepth f first many)) ds → (us : Trees) → rest (l .made) ds ≡ us
+      go : (M : Memo) (ds : Trees) → Fillable old l at (rooms f (runDepth f first many)) ds → (us : Trees) → rest (l .made) ds ≡ us
           → (b : Built) → OneOf (1 ∷ 2 ∷ 3 ∷ []) (tagOf built-tags.the-type b) → TakesFirst us at b mid
           → Filled M (expand f (Init.structure (initsAt f first many)) leaf ds (l .made) (l .size)) l old at listed.None mid
       go M ds y tnil e b o h = record { kept = c .kept; lists = structure-last M f (initsAt f first many) leaf l ds (y .defaults .count) e }
@@ -153,13 +153,13 @@ module _ (f known store : List ℕ) (first many : ℕ) (leaf : Place) (l : Filli
 -- what stands for its call
 pub default-there : (f : List ℕ) (n : ℕ) {l : Filling} {old : List ℕ} {at : ℕ} {b : Built} {mid : List ℕ} → CopiesDefault l old at b mid → {end : ℕ} → b ≡ built.Ends end → length mid ≡ length old
     → DefaultsThere old l at (rooms f n) → FieldsThere mid at end (rooms f n)
-default-there f n {l} {old} {at} {b} {mid} c {end} q g y = go (rest (l .made) (y .trees)) refl (c .says (y .trees) (ready-less (y .ready) 12288 (omega arith)))
+default-there f n {l} {old} {at} {b} {mid} c {end} q g y = go (rest (l .made) (y .trees)) refl (c .says (y .trees) (fillable-less (y .ready) 12288 (omega arith)))
   where
     go : (us : Trees) → rest (l .made) (y .trees) ≡ us → TakesFirst us at b mid → FieldsThere mid at end (rooms f n)
     go tnil e h = let z : _≡_ {A = ℕ} 0 1 = cc in absurd (omega arith)
     go (tcons t us) e h =
         let d : Taken t at end mid = rw q at h in
-        let y' = ready-less (y .ready) 12288 (omega arith) in
+        let y' = fillable-less (y .ready) 12288 (omega arith) in
         record {
           fields = parts t;
           there = record { stands = d .stands; whole = gathered-parts t (first-good (l .made) (y .trees) (y .ready .defaults .whole) t us e) (next-few y' t us e); room = omega (arith, y .ready .room) };
@@ -169,7 +169,7 @@ default-there f n {l} {old} {at} {b} {mid} c {end} q g y = go (rest (l .made) (y
 pub record AllInv (f known store : List ℕ) (first many : ℕ) (leaf : Place) (l : Filling) (old : List ℕ) (at i from to made size : ℕ) (s : List ℕ) : Type 0 where
   pub long : length s ≡ length old
   pub some : i ≤ many
-  pub says : (M : Memo) → Memory f known store M → (ds : Trees) → Ready old l at 0 ds → at + 24576 * (runDepth f first many + shapesDeep f) ≤ length old + 6 * suc (l .size)
+  pub says : (M : Memo) → Memory f known store M → (ds : Trees) → Fillable old l at 0 ds → at + 24576 * (runDepth f first many + shapesDeep f) ≤ length old + 6 * suc (l .size)
       → Along M (Defs.expandAll f (initsAt f first many) leaf ds (l .made) (l .size)) (Defs.expandAll f (initsAt f (first + i) (many - i)) leaf ds made size) l old at ds from to made size s
 
 pub all-first : (f known store : List ℕ) (first many : ℕ) (leaf : Place) (l : Filling) (old : List ℕ) (at : ℕ) → AllInv f known store first many leaf l old at 0 (l .from) at (l .made) (l .size) old
@@ -203,10 +203,10 @@ module _ {f known store : List ℕ} {first many : ℕ} {leaf : Place} {l : Filli
             so-far-all M _ l old at (y .says M k ds z room .far) (ap (λ n. Defs.expandAll f (initsAt f (first + i) n) leaf ds made size) e ∙ ap (λ is. Defs.expandAll f is leaf ds made size) (inits-none f (first + i)));
       }
 
-  module _ {source : List ℕ} (gv : Given f source known) (hr : first + many ≤ count f entries) (h : i < many) {r : Listed} {new : List ℕ}
+  module _ {source : List ℕ} (gv : Ready f source known store) (hr : first + many ≤ count f entries) (h : i < many) {r : Listed} {new : List ℕ}
       (w : Expands f known store (first + i) leaf (now-at l from made size) s to r new) where
-    all-ready : (M : Memo) → Memory f known store M → (ds : Trees) → Ready old l at 0 ds → at + 24576 * (runDepth f first many + shapesDeep f) ≤ length old + 6 * suc (l .size)
-        → Ready s (now-at l from made size) to (rooms f (entryDepth f (first + i) - 1)) ds
+    all-ready : (M : Memo) → Memory f known store M → (ds : Trees) → Fillable old l at 0 ds → at + 24576 * (runDepth f first many + shapesDeep f) ≤ length old + 6 * suc (l .size)
+        → Fillable s (now-at l from made size) to (rooms f (entryDepth f (first + i) - 1)) ds
     all-ready M k ds z room =
         let v = y .says M k ds z room .far in
         let d = deepest-at (entryDepth f) first many (first + i) (omega arith) (omega arith) in
@@ -248,10 +248,10 @@ module _ {f known store : List ℕ} {first many : ℕ} {leaf : Place} {l : Filli
 
 -- what stands for the next entry
 pub all-there : {f known store : List ℕ} {first many : ℕ} {leaf : Place} {l : Filling} {old : List ℕ} {at i from to made size : ℕ} {s : List ℕ} → AllInv f known store first many leaf l old at i from to made size s
-    → {source : List ℕ} → Given f source known → first + many ≤ count f entries → i < many → Known f known store → RunThere f first many old l at
+    → {source : List ℕ} → Ready f source known store → first + many ≤ count f entries → i < many → RunThere f first many old l at
     → DefaultsThere s (now-at l from made size) to (rooms f (entryDepth f (first + i) - 1))
-all-there {f} {known} {store} {first} {many} {leaf} {l} {old} {at} {i} {from} {to} {made} {size} {s} y gv hr h kn z =
-    let w = y .says (kn .memo) (kn .memory) (z .trees) (z .ready) (z .room) in
+all-there {f} {known} {store} {first} {many} {leaf} {l} {old} {at} {i} {from} {to} {made} {size} {s} y gv hr h z =
+    let w = y .says (gv .memo) (gv .memory) (z .trees) (z .ready) (z .room) in
     let v = w .far in
     let d = deepest-at (entryDepth f) first many (first + i) (omega arith) (omega arith) in
     record {

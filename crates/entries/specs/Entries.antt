@@ -25,7 +25,7 @@ use Rattle.gather.specs.declared.answers.Listed.{Listed}
 use Rattle.gather.specs.declared.answers.Filling.{Filling}
 use Rattle.gather.specs.Answers.{Lists, Placed, Filled}
 use Rattle.build.specs.Built.{Memory}
-use Rattle.gather.specs.Room.{shapesDeep, rooms, Ready, Structure, Current, whole}
+use Rattle.gather.specs.Room.{shapesDeep, rooms, Fillable, Structure, Current, whole}
 use Rattle.gather.specs.Copies.{SetsKept}
 
 -- how deep a run of entries nests
@@ -39,11 +39,11 @@ pub record EntryLink (f : List ℕ) (l : ℕ) : Type 0 where
 -- ---- what stands, and the room behind it: what the calls ask for
 pub record DefaultsThere (s : List ℕ) (l : Filling) (at need : ℕ) : Type 0 where
   pub trees : Trees
-  pub ready : Ready s l at need trees
+  pub ready : Fillable s l at need trees
 
 pub record RunThere (f : List ℕ) (first count : ℕ) (s : List ℕ) (l : Filling) (at : ℕ) : Type 0 where
   pub trees : Trees
-  pub ready : Ready s l at 0 trees
+  pub ready : Fillable s l at 0 trees
   pub room : at + 24576 * (runDepth f first count + shapesDeep f) ≤ length s + 6 * suc (l .size)
 
 pub record ValuesThere (f : List ℕ) (first count places : ℕ) (s : List ℕ) (end : ℕ) : Type 0 where
@@ -63,26 +63,26 @@ pub record ValueThere (s : List ℕ) (begin end at need : ℕ) : Type 0 where
 
 -- ---- entries of an array
 pub record Expands (f known store : List ℕ) (e : ℕ) (leaf : Place) (l : Filling) (old : List ℕ) (at : ℕ) (r : Listed) (new : List ℕ) : Type 0 where
-  pub says : (M : Memo) → Memory f known store M → (ds : Trees) → Ready old l at (rooms f (entryDepth f e - 1)) ds
+  pub says : (M : Memo) → Memory f known store M → (ds : Trees) → Fillable old l at (rooms f (entryDepth f e - 1)) ds
       → Filled M (expand f (initAt f e) leaf ds (l .made) (l .size)) l old at r new
 
 -- a repetition, of the entry that a link leads to, or of each place's own default
 pub record Repeats (f known store : List ℕ) (k link : ℕ) (leaf : Place) (l : Filling) (old : List ℕ) (at : ℕ) (r : Listed) (new : List ℕ) : Type 0 where
-  pub says : (M : Memo) → Memory f known store M → (ds : Trees) → Ready old l at (rooms f (onLink link 0 (entryDepth f))) ds
+  pub says : (M : Memo) → Memory f known store M → (ds : Trees) → Fillable old l at (rooms f (onLink link 0 (entryDepth f))) ds
       → Filled M (expand f (onLink link (Init.defaults k) (λ e. Init.repeated k (initAt f e))) leaf ds (l .made) (l .size)) l old at r new
 
 pub record RepeatsEntry (f known store : List ℕ) (k e : ℕ) (leaf : Place) (l : Filling) (old : List ℕ) (at : ℕ) (r : Listed) (new : List ℕ) : Type 0 where
-  pub says : (M : Memo) → Memory f known store M → (ds : Trees) → Ready old l at (rooms f (entryDepth f e)) ds
+  pub says : (M : Memo) → Memory f known store M → (ds : Trees) → Fillable old l at (rooms f (entryDepth f e)) ds
       → Filled M (expand f (Init.repeated k (initAt f e)) leaf ds (l .made) (l .size)) l old at r new
 
 -- a structure over the next place's default
 pub record ExpandsStructure (f known store : List ℕ) (first count : ℕ) (leaf : Place) (l : Filling) (old : List ℕ) (at : ℕ) (r : Listed) (new : List ℕ) : Type 0 where
-  pub says : (M : Memo) → Memory f known store M → (ds : Trees) → Ready old l at (rooms f (runDepth f first count)) ds
+  pub says : (M : Memo) → Memory f known store M → (ds : Trees) → Fillable old l at (rooms f (runDepth f first count)) ds
       → Filled M (expand f (Init.structure (initsAt f first count)) leaf ds (l .made) (l .size)) l old at r new
 
 -- a run: the values may have 2,047 nodes in all, and the deepest entry wants its room behind them
 pub record ExpandsAll (f known store : List ℕ) (first count : ℕ) (leaf : Place) (l : Filling) (old : List ℕ) (at : ℕ) (r : Listed) (new : List ℕ) : Type 0 where
-  pub says : (M : Memo) → Memory f known store M → (ds : Trees) → Ready old l at 0 ds → at + 24576 * (runDepth f first count + shapesDeep f) ≤ length old + 6 * suc (l .size)
+  pub says : (M : Memo) → Memory f known store M → (ds : Trees) → Fillable old l at 0 ds → at + 24576 * (runDepth f first count + shapesDeep f) ≤ length old + 6 * suc (l .size)
       → Filled M (expandAll f (initsAt f first count) leaf ds (l .made) (l .size)) l old at r new
 
 -- ---- an array

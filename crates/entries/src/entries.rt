@@ -7,7 +7,8 @@ ghost use Rattle.definition.specs.Depth.{entryDepth};
 ghost use Rattle.definition.specs.Layout as Layout;
 ghost use Rattle.definition.specs.Layout.{entries};
 ghost use Rattle.places.specs.Inside.{PlaceIn};
-ghost use Rattle.gather.specs.Room.{Given, Known, RoomThere, shapesDeep, rooms};
+ghost use Rattle.build.specs.Built.{Ready};
+ghost use Rattle.gather.specs.Room.{RoomThere, shapesDeep, rooms};
 ghost use Rattle.entries.specs.Entries.{runDepth, EntryLink, DefaultsThere, RunThere, ValuesThere, FieldsThere, ValueThere, Expands, Repeats, RepeatsEntry, ExpandsStructure, ExpandsAll, BuildsArray, FillsArray, FillsValues, Applies, SetsMember, BuildsMember, BuildsStructure};
 use build::built::Built;
 use definition::records::Entry;
@@ -46,7 +47,7 @@ pub fn expand(
     room: &mut [u32],
     at: usize,
 ) -> Listed
-    requires { ⌜ Given (now file) (now source) (now known) × PlaceIn (now file) leaf × (e < Layout.count (now file) entries) × Known (now file) (now known) (now store) × DefaultsThere (now room) l at (rooms (now file) (entryDepth (now file) e - 1)) ⌝ }
+    requires { ⌜ Ready (now file) (now source) (now known) (now store) × PlaceIn (now file) leaf × (e < Layout.count (now file) entries) × DefaultsThere (now room) l at (rooms (now file) (entryDepth (now file) e - 1)) ⌝ }
     ensures { λ r. ⌜ Expands (now (file .entry)) (now (known .entry)) (now (store .entry)) e leaf l (now (room .entry)) at r (now (room .exit)) ⌝ }
 {
     let entry = entry_at(file, source, e);
@@ -74,7 +75,7 @@ pub fn push_repeat(
     room: &mut [u32],
     at: usize,
 ) -> Listed
-    requires { ⌜ Given (now file) (now source) (now known) × PlaceIn (now file) leaf × EntryLink (now file) link × Known (now file) (now known) (now store) × DefaultsThere (now room) l at (rooms (now file) (onLink link 0 (entryDepth (now file)))) ⌝ }
+    requires { ⌜ Ready (now file) (now source) (now known) (now store) × PlaceIn (now file) leaf × EntryLink (now file) link × DefaultsThere (now room) l at (rooms (now file) (onLink link 0 (entryDepth (now file)))) ⌝ }
     ensures { λ r. ⌜ Repeats (now (file .entry)) (now (known .entry)) (now (store .entry)) times link leaf l (now (room .entry)) at r (now (room .exit)) ⌝ }
 {
     if link == 0 {
@@ -107,7 +108,7 @@ pub fn repeat_entry(
     room: &mut [u32],
     at: usize,
 ) -> Listed
-    requires { ⌜ Given (now file) (now source) (now known) × PlaceIn (now file) leaf × (e < Layout.count (now file) entries) × Known (now file) (now known) (now store) × DefaultsThere (now room) l at (rooms (now file) (entryDepth (now file) e)) ⌝ }
+    requires { ⌜ Ready (now file) (now source) (now known) (now store) × PlaceIn (now file) leaf × (e < Layout.count (now file) entries) × DefaultsThere (now room) l at (rooms (now file) (entryDepth (now file) e)) ⌝ }
     ensures { λ r. ⌜ RepeatsEntry (now (file .entry)) (now (known .entry)) (now (store .entry)) times e leaf l (now (room .entry)) at r (now (room .exit)) ⌝ }
 {
     if l.places < times as usize {
@@ -131,7 +132,7 @@ pub fn push_structure(
     room: &mut [u32],
     at: usize,
 ) -> Listed
-    requires { ⌜ Given (now file) (now source) (now known) × PlaceIn (now file) leaf × (first + count ≤ Layout.count (now file) entries) × Known (now file) (now known) (now store) × DefaultsThere (now room) l at (rooms (now file) (runDepth (now file) first count)) ⌝ }
+    requires { ⌜ Ready (now file) (now source) (now known) (now store) × PlaceIn (now file) leaf × (first + count ≤ Layout.count (now file) entries) × DefaultsThere (now room) l at (rooms (now file) (runDepth (now file) first count)) ⌝ }
     ensures { λ r. ⌜ ExpandsStructure (now (file .entry)) (now (known .entry)) (now (store .entry)) first count leaf l (now (room .entry)) at r (now (room .exit)) ⌝ }
 {
     let b = copy_default(l, room, at);
@@ -166,7 +167,7 @@ pub fn expand_all(
     room: &mut [u32],
     at: usize,
 ) -> Listed
-    requires { ⌜ Given (now file) (now source) (now known) × PlaceIn (now file) leaf × (first + count ≤ Layout.count (now file) entries) × Known (now file) (now known) (now store) × RunThere (now file) first count (now room) l at ⌝ }
+    requires { ⌜ Ready (now file) (now source) (now known) (now store) × PlaceIn (now file) leaf × (first + count ≤ Layout.count (now file) entries) × RunThere (now file) first count (now room) l at ⌝ }
     ensures { λ r. ⌜ ExpandsAll (now (file .entry)) (now (known .entry)) (now (store .entry)) first count leaf l (now (room .entry)) at r (now (room .exit)) ⌝ }
 {
     let mut i: u32 = 0;
@@ -224,7 +225,7 @@ pub fn array(
     room: &mut [u32],
     at: usize,
 ) -> Built
-    requires { ⌜ Given (now file) (now source) (now known) × PlaceIn (now file) place × (first + count ≤ Layout.count (now file) entries) × Known (now file) (now known) (now store) × RoomThere (now room) at (rooms (now file) (runDepth (now file) first count)) ⌝ }
+    requires { ⌜ Ready (now file) (now source) (now known) (now store) × PlaceIn (now file) place × (first + count ≤ Layout.count (now file) entries) × RoomThere (now room) at (rooms (now file) (runDepth (now file) first count)) ⌝ }
     ensures { λ r. ⌜ BuildsArray (now (file .entry)) (now (known .entry)) (now (store .entry)) place first count (now (room .entry)) at r (now (room .exit)) ⌝ }
 {
     match write_array(room, at, 0) {
@@ -256,7 +257,7 @@ pub fn fill(
     count: u32,
     room: &mut [u32],
 ) -> Listed
-    requires { ⌜ Given (now file) (now source) (now known) × PlaceIn (now file) place × (first + count ≤ Layout.count (now file) entries) × Known (now file) (now known) (now store) × RoomThere (now room) 0 (12282 + 24576 * (runDepth (now file) first count + shapesDeep (now file))) ⌝ }
+    requires { ⌜ Ready (now file) (now source) (now known) (now store) × PlaceIn (now file) place × (first + count ≤ Layout.count (now file) entries) × RoomThere (now room) 0 (12282 + 24576 * (runDepth (now file) first count + shapesDeep (now file))) ⌝ }
     ensures { λ r. ⌜ FillsArray (now (file .entry)) (now (known .entry)) (now (store .entry)) place first count (now (room .entry)) r (now (room .exit)) ⌝ }
 {
     let d = element_defaults(file, source, known, store, place, room, 0);
@@ -295,7 +296,7 @@ pub fn fill_values(
     room: &mut [u32],
     end: usize,
 ) -> Listed
-    requires { ⌜ Given (now file) (now source) (now known) × PlaceIn (now file) place × (first + count ≤ Layout.count (now file) entries) × Known (now file) (now known) (now store) × ValuesThere (now file) first count places (now room) end ⌝ }
+    requires { ⌜ Ready (now file) (now source) (now known) (now store) × PlaceIn (now file) place × (first + count ≤ Layout.count (now file) entries) × ValuesThere (now file) first count places (now room) end ⌝ }
     ensures { λ r. ⌜ FillsValues (now (file .entry)) (now (known .entry)) (now (store .entry)) place first count places (now (room .entry)) end r (now (room .exit)) ⌝ }
 {
     let leaf = leaf_place(file, source, known, place);
@@ -322,7 +323,7 @@ pub fn apply_members(
     at: usize,
     end: usize,
 ) -> Built
-    requires { ⌜ Given (now file) (now source) (now known) × PlaceIn (now file) place × (first + count ≤ Layout.count (now file) entries) × Known (now file) (now known) (now store) × FieldsThere (now room) at end (rooms (now file) (runDepth (now file) first count)) ⌝ }
+    requires { ⌜ Ready (now file) (now source) (now known) (now store) × PlaceIn (now file) place × (first + count ≤ Layout.count (now file) entries) × FieldsThere (now room) at end (rooms (now file) (runDepth (now file) first count)) ⌝ }
     ensures { λ r. ⌜ Applies (now (file .entry)) (now (known .entry)) (now (store .entry)) first count place (now (room .entry)) at end r (now (room .exit)) ⌝ }
 {
     let mut i: u32 = 0;
@@ -350,7 +351,7 @@ pub fn set_member(
     at: usize,
     end: usize,
 ) -> Built
-    requires { ⌜ Given (now file) (now source) (now known) × PlaceIn (now file) place × (e < Layout.count (now file) entries) × Known (now file) (now known) (now store) × FieldsThere (now room) at end (12288 + rooms (now file) (entryDepth (now file) e - 1)) ⌝ }
+    requires { ⌜ Ready (now file) (now source) (now known) (now store) × PlaceIn (now file) place × (e < Layout.count (now file) entries) × FieldsThere (now room) at end (12288 + rooms (now file) (entryDepth (now file) e - 1)) ⌝ }
     ensures { λ r. ⌜ SetsMember (now (file .entry)) (now (known .entry)) (now (store .entry)) e place (now (room .entry)) at end r (now (room .exit)) ⌝ }
 {
     let t = find_field(file, source, known, e, place, &room[..], at);
@@ -380,7 +381,7 @@ pub fn member(
     room: &mut [u32],
     at: usize,
 ) -> Built
-    requires { ⌜ Given (now file) (now source) (now known) × PlaceIn (now file) place × (e < Layout.count (now file) entries) × Known (now file) (now known) (now store) × ValueThere (now room) begin upto at (rooms (now file) (entryDepth (now file) e - 1)) ⌝ }
+    requires { ⌜ Ready (now file) (now source) (now known) (now store) × PlaceIn (now file) place × (e < Layout.count (now file) entries) × ValueThere (now room) begin upto at (rooms (now file) (entryDepth (now file) e - 1)) ⌝ }
     ensures { λ r. ⌜ BuildsMember (now (file .entry)) (now (known .entry)) (now (store .entry)) e place begin upto (now (room .entry)) at r (now (room .exit)) ⌝ }
 {
     let entry = entry_at(file, source, e);
@@ -429,7 +430,7 @@ pub fn member_structure(
     room: &mut [u32],
     at: usize,
 ) -> Built
-    requires { ⌜ Given (now file) (now source) (now known) × PlaceIn (now file) place × (first + count ≤ Layout.count (now file) entries) × Known (now file) (now known) (now store) × ValueThere (now room) begin upto at (rooms (now file) (runDepth (now file) first count)) ⌝ }
+    requires { ⌜ Ready (now file) (now source) (now known) (now store) × PlaceIn (now file) place × (first + count ≤ Layout.count (now file) entries) × ValueThere (now room) begin upto at (rooms (now file) (runDepth (now file) first count)) ⌝ }
     ensures { λ r. ⌜ BuildsStructure (now (file .entry)) (now (known .entry)) (now (store .entry)) first count place begin upto (now (room .entry)) at r (now (room .exit)) ⌝ }
 {
     let b = copy_structure(room, begin, upto, at);

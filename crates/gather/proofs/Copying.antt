@@ -49,7 +49,7 @@ use Rattle.gather.specs.declared.answers.Listed.{Listed}
 use Rattle.gather.specs.declared.answers.Listed.the-variants as listed
 use Rattle.gather.specs.declared.answers.Filling.{Filling}
 use Rattle.gather.specs.Answers.{TreeThere, Builds, ListThere, Lists}
-use Rattle.gather.specs.Room.{Defaults, Ready, Current}
+use Rattle.gather.specs.Room.{Defaults, Fillable, Current}
 use Rattle.gather.specs.Leaves.{onAdded}
 use Rattle.gather.specs.Copies.{Taken, Takes, TakesFirst, CopiesWords, PushesWords, CopiesFields, CopiesStructure, CopiesDefault, MovesOn, Remains, CopiesList, PushesCopies, NextDefault}
 use Rattle.gather.proofs.Onward.{lists-as, lists-same, lists-added}
@@ -164,7 +164,7 @@ record NextIn (s : List ℕ) (from : ℕ) (t : Tree) (e : ℕ) : Type 0 where
   inside : from + 6 * nodes t ≤ e
   good : Good t
 
-module _ {l : Filling} {old : List ℕ} {at need : ℕ} {ds : Trees} (y : Ready old l at need ds) where
+module _ {l : Filling} {old : List ℕ} {at need : ℕ} {ds : Trees} (y : Fillable old l at need ds) where
   next-in : (t : Tree) (us : Trees) → rest (l .made) ds ≡ tcons t us → NextIn old (l .from) t at
   unfolding nodes Good
   next-in t us q =
@@ -200,21 +200,21 @@ module _ (l : Filling) {old : List ℕ} (at : ℕ) {x : Extent} (q : x ≡ whole
   pub default-copied : {e : ℕ} → x ≡ extent.Ends e → {r : Built} {new : List ℕ} → CopiesStructure (l .from) e old at r new → CopiesDefault l old at r new
   default-copied i {r} {new} w = record { kept = w .kept; says = λ ds y. go ds y (rest (l .made) ds) refl }
     where
-      go : (ds : Trees) → Ready old l at 12288 ds → (us : Trees) → rest (l .made) ds ≡ us → TakesFirst us at r new
+      go : (ds : Trees) → Fillable old l at 12288 ds → (us : Trees) → rest (l .made) ds ≡ us → TakesFirst us at r new
       go ds y tnil e = absurd (some-left y h e)
       go ds y (tcons t us) e = w .says t (next-current y (sym q ∙ i) t us e)
 
   pub default-not : x ≡ extent.Not → CopiesDefault l old at built.None old
   default-not i = record { kept = refl; says = λ ds y. go ds y (rest (l .made) ds) refl }
     where
-      go : (ds : Trees) → Ready old l at 12288 ds → (us : Trees) → rest (l .made) ds ≡ us → TakesFirst us at built.None old
+      go : (ds : Trees) → Fillable old l at 12288 ds → (us : Trees) → rest (l .made) ds ≡ us → TakesFirst us at built.None old
       go ds y tnil e = refl
       go ds y (tcons t us) e = let n = next-in y t us e in let z : _≡_ {A = ℕ} 0 1 = cc (n .is) in absurd (omega arith)
 
 pub default-past : (l : Filling) (old : List ℕ) (at : ℕ) → l .places ≤ l .made → CopiesDefault l old at built.None old
 default-past l old at h = record { kept = refl; says = λ ds y. go ds y (rest (l .made) ds) refl }
   where
-    go : (ds : Trees) → Ready old l at 12288 ds → (us : Trees) → rest (l .made) ds ≡ us → TakesFirst us at built.None old
+    go : (ds : Trees) → Fillable old l at 12288 ds → (us : Trees) → rest (l .made) ds ≡ us → TakesFirst us at built.None old
     go ds y tnil e = refl
     go ds y (tcons t us) e = absurd (past-none y h t us e)
 
@@ -281,21 +281,21 @@ module _ (l : Filling) (old : List ℕ) (at : ℕ) {x : Extent} (q : x ≡ whole
   pub next-pushed : {e : ℕ} → x ≡ extent.Ends e → {r : Listed} {new : List ℕ} → PushesWords (l .from) e l old at r new → NextDefault l old at r new
   next-pushed {e} i {r} {new} w = record { kept = w .kept; says = λ M ds z room. go M ds z room (rest (l .made) ds) refl }
     where
-      go : (M : Memo) (ds : Trees) → Ready old l at 0 ds → at + 12282 ≤ length old + 6 * l .size → (us : Trees) → rest (l .made) ds ≡ us → Lists M (next l us) l at r new
+      go : (M : Memo) (ds : Trees) → Fillable old l at 0 ds → at + 12282 ≤ length old + 6 * l .size → (us : Trees) → rest (l .made) ds ≡ us → Lists M (next l us) l at r new
       go M ds z room tnil p = absurd (some-left z h p)
       go M ds z room (tcons t us) p = w .says M t (next-current z (sym q ∙ i) t us p) room
 
   pub next-not : x ≡ extent.Not → NextDefault l old at listed.None old
   next-not i = record { kept = refl; says = λ M ds z room. go M ds z (rest (l .made) ds) refl }
     where
-      go : (M : Memo) (ds : Trees) → Ready old l at 0 ds → (us : Trees) → rest (l .made) ds ≡ us → Lists M (next l us) l at listed.None old
+      go : (M : Memo) (ds : Trees) → Fillable old l at 0 ds → (us : Trees) → rest (l .made) ds ≡ us → Lists M (next l us) l at listed.None old
       go M ds z tnil p = absurd (some-left z h p)
       go M ds z (tcons t us) p = let n = next-in z t us p in let n : _≡_ {A = ℕ} 0 1 = cc (n .is) in absurd (omega arith)
 
 pub next-past : (l : Filling) (old : List ℕ) (at : ℕ) → l .places ≤ l .made → NextDefault l old at listed.None old
 next-past l old at h = record { kept = refl; says = λ M ds y room. go M ds y (rest (l .made) ds) refl }
   where
-    go : (M : Memo) (ds : Trees) → Ready old l at 0 ds → (us : Trees) → rest (l .made) ds ≡ us
+    go : (M : Memo) (ds : Trees) → Fillable old l at 0 ds → (us : Trees) → rest (l .made) ds ≡ us
         → peek M (onFirst us (λ t ts. added (l .places) (l .made) (l .size) (one t))) ≡ got none
     go M ds y tnil e = peek-nothing M
     go M ds y (tcons t us) e = absurd (past-none y h t us e)

@@ -39,13 +39,9 @@ use Rattle.build.proofs.Levels.{element-under}
 use Rattle.gather.specs.declared.answers.Listed.{Listed}
 use Rattle.gather.specs.declared.answers.Listed.the-variants as listed
 use Rattle.gather.specs.Answers.{Lists}
-use Rattle.gather.specs.Room.{Given, Known, RoomThere, shapesDeep, whole}
+use Rattle.gather.specs.Room.{RoomThere, shapesDeep, whole}
 use Rattle.gather.specs.Elements.{EndsWhole, TakesHead, ElementDefaults}
 use Rattle.gather.proofs.Arrays.{many-nodes}
-
--- ---- what `build` asks of its arguments
-pub given-ready : {f source known store : List ℕ} → Given f source known → Known f known store → Ready f source known store
-given-ready g k = record { starts = g .begins; declared = g .declared; accepted = g .accepted; classed = g .lowest; tables = g .tables; memo = k .memo; memory = k .memory }
 
 -- ---- `take_head`
 flat-array : (ts : Trees) → flat (arrayTree ts) ≡ ts
@@ -149,7 +145,7 @@ module _ {f known store : List ℕ} (place : Place) {old : List ℕ} (at : ℕ) 
   unfolding elementDefaults
   elements-none h = record { says = λ M k room. record { kept = refl; lists = ap (peek M) (no-array f place (place .shape) h) ∙ peek-nothing M } }
 
-module _ {f source known : List ℕ} (g : Given f source known) (place : Place) (i : PlaceIn f place) (at : ℕ) where
+module _ {f source known store : List ℕ} (g : Ready f source known store) (place : Place) (i : PlaceIn f place) (at : ℕ) where
   module _ {s first many : ℕ} (e : place .shape ≡ shape.Array s first many) {old : List ℕ} (z : RoomThere old at (12282 + 24576 * shapesDeep f)) where
     pub elements-room : at + 6 + startLevels f (elementPlace f place s) * 12288 ≤ length old
     unfolding shapesDeep
@@ -163,13 +159,13 @@ module _ {f source known : List ℕ} (g : Given f source known) (place : Place) 
         let h = element-shape i e in
         omega (arith, z .room, shape-depth-least f (g .accepted) s h, deepest-at (shapeDepth f) 0 (count f shapes) s (omega arith) (omega arith))
 
-  module _ {store : List ℕ} (y : Known f known store) {old : List ℕ} {r : Built} {mid : List ℕ} (x : of-build.Builds f known store arrayWords (elementDefaults f (defaultOf f) place) at old r mid) where
+  module _ {old : List ℕ} {r : Built} {mid : List ℕ} (x : of-build.Builds f known store arrayWords (elementDefaults f (defaultOf f) place) at old r mid) where
     pub elements-whole : EndsWhole r mid at
     elements-whole =
         record {
           stands = λ e q.
-              let v = gives-ends (peek (y .memo) (elementDefaults f (defaultOf f) place)) (x .gives (y .memo) (y .memory)) q in
-              record { tree = arrayTree (v .value); good = good-array (v .value) (elements-gathered (g .accepted) (y .memory) i (v .value) (v .is) .whole); stands = v .stands };
+              let v = gives-ends (peek (g .memo) (elementDefaults f (defaultOf f) place)) (x .gives (g .memo) (g .memory)) q in
+              record { tree = arrayTree (v .value); good = good-array (v .value) (elements-gathered (g .accepted) (g .memory) i (v .value) (v .is) .whole); stands = v .stands };
         }
 
     pub elements-listed : {r' : Listed} {new : List ℕ} → TakesHead r mid at r' new → ElementDefaults f known store place old at r' new
@@ -184,7 +180,6 @@ module _ {f source known : List ℕ} (g : Given f source known) (place : Place) 
 
 pub ruleset laws = (
   needs,
-  given-ready,
   head-whole,
   head-times,
   head-fits,

@@ -31,7 +31,7 @@ use Rattle.gather.specs.declared.answers.Listed.{Listed}
 use Rattle.gather.specs.declared.answers.Listed.the-variants as listed
 use Rattle.gather.specs.declared.answers.Filling.{Filling}
 use Rattle.gather.specs.Answers.{ListThere, Lists, Filled}
-use Rattle.gather.specs.Room.{Defaults, Ready}
+use Rattle.gather.specs.Room.{Defaults, Fillable}
 use Rattle.gather.specs.Copies.{MovesOn, NextDefault, EachDefault, PushesDefaults, defaultedOf}
 use Rattle.gather.proofs.Onward.{take-less, lists-as, lists-same}
 
@@ -219,7 +219,7 @@ pub record Along (M : Memo) (whole left : Ask (Result Trees)) (l : Filling) (old
 
 module _ {M : Memo} {whole left : Ask (Result Trees)} {l : Filling} {old : List ℕ} {at : ℕ} {ds : Trees} {from to made size : ℕ} {s : List ℕ}
     (y : Along M whole left l old at ds from to made size s) where
-  pub along-ready : (need : ℕ) → to + need ≤ length s → Ready s (now-at l from made size) to need ds
+  pub along-ready : (need : ℕ) → to + need ≤ length s → Fillable s (now-at l from made size) to need ds
   along-ready need h =
       record {
         defaults = defaults-kept (y .next) s to (omega (arith, y .far .ends)) refl refl;
@@ -235,7 +235,7 @@ module _ {M : Memo} {whole left : Ask (Result Trees)} {l : Filling} {old : List 
 
 pub record EachInv (k : ℕ) (l : Filling) (old : List ℕ) (at left from to made size : ℕ) (s : List ℕ) : Type 0 where
   pub long : length s ≡ length old
-  pub says : (M : Memo) (ds : Trees) → Ready old l at 12288 ds
+  pub says : (M : Memo) (ds : Trees) → Fillable old l at 12288 ds
       → Along M (defaulted k (rest (l .made) ds) (l .places) (l .made) (l .size)) (defaulted left (rest made ds) (l .places) made size) l old at ds from to made size s
 
 pub each-first : (k : ℕ) (l : Filling) (old : List ℕ) (at : ℕ) → EachInv k l old at k (l .from) at (l .made) (l .size) old
@@ -256,7 +256,7 @@ module _ {k : ℕ} {l : Filling} {old : List ℕ} {at left from to made size : �
       record { says = λ M ds z. let e : left ≡ 0 = omega arith in so-far-all M _ l old at (y .says M ds z .far) (ap (λ n. defaulted n (rest made ds) (l .places) made size) e) }
 
   module _ (h : 0 < left) {r : Listed} {new : List ℕ} (w : NextDefault (now-at l from made size) s to r new) where
-    each-ready : {ds : Trees} → Ready old l at 12288 ds → (M : Memo) → Ready s (now-at l from made size) to 0 ds × (to + 12282 ≤ length s + 6 * size)
+    each-ready : {ds : Trees} → Fillable old l at 12288 ds → (M : Memo) → Fillable s (now-at l from made size) to 0 ds × (to + 12282 ≤ length s + 6 * size)
     each-ready {ds} z M =
         let f = y .says M ds z .far in (
           along-ready (y .says M ds z) 0 (omega (arith, f .small .room, f .ends, z .room, y .long)),
@@ -277,7 +277,7 @@ module _ {k : ℕ} {l : Filling} {old : List ℕ} {at left from to made size : �
     pub each-fails : OneOf (1 ∷ 2 ∷ 3 ∷ []) (tagOf the-type r) → EachDefault k l old at r new
     each-fails o = record { says = λ M ds z. go M ds z (rest made ds) refl (w .says M ds (each-ready z M .0) (each-ready z M .1)) }
       where
-        go : (M : Memo) (ds : Trees) → Ready old l at 12288 ds → (us : Trees) → rest made ds ≡ us
+        go : (M : Memo) (ds : Trees) → Fillable old l at 12288 ds → (us : Trees) → rest made ds ≡ us
             → Lists M (onFirst us (λ t ts. added (l .places) made size (one t))) (now-at l from made size) to r new
             → Filled M (defaulted k (rest (l .made) ds) (l .places) (l .made) (l .size)) l old at r new
         go M ds z tnil e t =
@@ -296,7 +296,7 @@ module _ {k : ℕ} {l : Filling} {old : List ℕ} {at left from to made size : �
               record { far = go M ds z (rest made ds) refl t; next = along-next (y .says M ds z) t (w .kept) g v };
         }
       where
-        go : (M : Memo) (ds : Trees) → Ready old l at 12288 ds → (us : Trees) → rest made ds ≡ us
+        go : (M : Memo) (ds : Trees) → Fillable old l at 12288 ds → (us : Trees) → rest made ds ≡ us
             → ListThere M (onFirst us (λ t ts. added (l .places) made size (one t))) (now-at l from made size) to e m n new
             → SoFar M (defaulted k (rest (l .made) ds) (l .places) (l .made) (l .size)) (defaulted (left - 1) (rest m ds) (l .places) m n) l old at e m n new
         go M ds z tnil q t = absurd (never-ok M (t .trees) (t .is))

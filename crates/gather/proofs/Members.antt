@@ -43,7 +43,7 @@ use Rattle.build.specs.declared.built.Built.the-variants as built
 use Rattle.gather.specs.declared.copies.Target.{Target}
 use Rattle.gather.specs.declared.copies.Target.the-variants as target
 use Rattle.gather.specs.Answers.{TreeThere, Builds}
-use Rattle.gather.specs.Room.{Given, Structure}
+use Rattle.gather.specs.Room.{Structure}
 use Rattle.gather.specs.Copies.{SetThere, Sets, SetsKept, Targets, Finds, PutsMember}
 use Rattle.gather.proofs.Onward.{builds-as}
 use Rattle.gather.proofs.Arrays.{gathered-ok, gathered-large, replaced-is, in-order}
@@ -53,14 +53,14 @@ named-entry : (f : List ℕ) (e : ℕ) {name : ℕ} → name ≡ word f entries 
 unfolding entryName
 named-entry f e q = q
 
-module _ {f source known : List ℕ} (g : Given f source known) (p : Place) (i : PlaceIn f p) (e : ℕ) {name : ℕ} (n : name ≡ word f entries e 1)
+module _ {f : List ℕ} (a : Accepted f) (p : Place) (i : PlaceIn f p) (e : ℕ) {name : ℕ} (n : name ≡ word f entries e 1)
     {s : List ℕ} (at : ℕ) {x : parts.Found} (q : x ≡ findOf s at name) where
   module _ {b u : ℕ} (j : x ≡ found.At b u) {y : Found} (z : placeIn y ≡ fieldPlace f p name) where
     pub finds-at : {inner : Place} → y ≡ places.Place inner → Finds f p e s at (target.At b u name inner)
     finds-at {inner} k =
         record {
           says = (named-entry f e n, sym q ∙ j, sym z ∙ (rw k refl));
-          inside = λ b' u' n' inner' w. let a : inner ≡ inner' = cc in rw a at (field-found f (g .accepted) p name i z k);
+          inside = λ b' u' n' inner' w. let o : inner ≡ inner' = cc in rw o at (field-found f a p name i z k);
         }
 
     pub finds-none : y ≡ places.None → Finds f p e s at target.None

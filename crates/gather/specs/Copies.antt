@@ -30,7 +30,7 @@ use Rattle.build.specs.declared.built.Built.the-variants as built
 use Rattle.gather.specs.declared.answers.Listed.{Listed}
 use Rattle.gather.specs.declared.answers.Filling.{Filling}
 use Rattle.gather.specs.Answers.{Builds, Lists, Filled}
-use Rattle.gather.specs.Room.{Defaults, Ready, Structure, Current, whole}
+use Rattle.gather.specs.Room.{Defaults, Fillable, Structure, Current, whole}
 
 -- ---- a structure is taken apart, and its fields stand under a head of their own; or it is none
 pub record Taken (t : Tree) (at e : ℕ) (new : List ℕ) : Type 0 where
@@ -64,7 +64,7 @@ TakesFirst (tcons t ts) at r new = Takes t at r new
 
 pub record CopiesDefault (l : Filling) (old : List ℕ) (at : ℕ) (r : Built) (new : List ℕ) : Type 0 where
   pub kept : take at new ≡ take at old
-  pub says : (ds : Trees) → Ready old l at 12288 ds → TakesFirst (rest (l .made) ds) at r new
+  pub says : (ds : Trees) → Fillable old l at 12288 ds → TakesFirst (rest (l .made) ds) at r new
 
 -- where the default of the next place stands, once there are more values
 pub record MovesOn (s : List ℕ) (from made more r : ℕ) : Type 0 where
@@ -100,13 +100,13 @@ pub record PushesWords (begin end : ℕ) (l : Filling) (old : List ℕ) (at : �
 -- the default of the next place
 pub record NextDefault (l : Filling) (old : List ℕ) (at : ℕ) (r : Listed) (new : List ℕ) : Type 0 where
   pub kept : take at new ≡ take at old
-  pub says : (M : Memo) (ds : Trees) → Ready old l at 0 ds → at + 12282 ≤ length old + 6 * l .size → Lists M (onFirst (rest (l .made) ds) (λ t ts. added (l .places) (l .made) (l .size) (one t))) l at r new
+  pub says : (M : Memo) (ds : Trees) → Fillable old l at 0 ds → at + 12282 ≤ length old + 6 * l .size → Lists M (onFirst (rest (l .made) ds) (λ t ts. added (l .places) (l .made) (l .size) (one t))) l at r new
 
 pub record EachDefault (k : ℕ) (l : Filling) (old : List ℕ) (at : ℕ) (r : Listed) (new : List ℕ) : Type 0 where
-  pub says : (M : Memo) (ds : Trees) → Ready old l at 12288 ds → Filled M (defaulted k (rest (l .made) ds) (l .places) (l .made) (l .size)) l old at r new
+  pub says : (M : Memo) (ds : Trees) → Fillable old l at 12288 ds → Filled M (defaulted k (rest (l .made) ds) (l .places) (l .made) (l .size)) l old at r new
 
 pub record PushesDefaults (k : ℕ) (l : Filling) (old : List ℕ) (at : ℕ) (r : Listed) (new : List ℕ) : Type 0 where
-  pub says : (M : Memo) (ds : Trees) → Ready old l at 12288 ds → Filled M (defaultedOf k ds l) l old at r new
+  pub says : (M : Memo) (ds : Trees) → Fillable old l at 12288 ds → Filled M (defaultedOf k ds l) l old at r new
 
 -- ---- an array
 -- the leading defaults, which stand at the front, give way to values behind them

@@ -1,33 +1,15 @@
--- What stands in the room, what is remembered, and how many words there are.
+-- What stands in the room, and how many words there are.
 use mathlib.Core.Path.{_≡_}
 use mathlib.Core.List.{List}
 use Prim.Native.Nat.{ℕ, suc, _+_, _*_, _≤_}
 use lib.ListN.{length}
 use Rattle.definition.specs.Layout.{count, shapes}
 use Rattle.definition.specs.Tree.{Tree, Trees, many, nodes, flatten, flattenAll, structureTree, rest, mostNodes}
-use Rattle.definition.specs.Resolve.{Memo}
 use Rattle.definition.specs.Depth.{deepest, shapeDepth}
-use Rattle.laws.specs.Accepted.{Accepted}
 use Rattle.laws.specs.Gathers.{Gathered}
 use Rattle.laws.specs.Whole.{Good}
-use Rattle.records.specs.Starts.{StartsOf, DeclaredIn}
-use Rattle.shapes.specs.Classes.{Classes}
 use Rattle.tree.specs.Words.{Stand}
-use Rattle.build.specs.Built.{indexAt, Memory}
 use Rattle.gather.specs.declared.answers.Filling.{Filling}
-
--- what a file is read with
-pub record Given (f source known : List ℕ) : Type 0 where
-  pub begins : StartsOf f source
-  pub accepted : Accepted f
-  pub lowest : Classes f known
-  pub declared : DeclaredIn f source
-  pub tables : indexAt ≤ length known
-
--- index and store stand for a memo
-pub record Known (f known store : List ℕ) : Type 0 where
-  pub memo : Memo
-  pub memory : Memory f known store memo
 
 -- two trees of 2,048 nodes for each level of entries and of shapes, and one more
 unfoldable pub shapesDeep : List ℕ → ℕ
@@ -45,7 +27,7 @@ pub record Defaults (s : List ℕ) (from made places : ℕ) (ds : Trees) (upto :
   pub count : many ds ≡ places
 
 -- an array's defaults, the values so far, and room for the next
-pub record Ready (s : List ℕ) (l : Filling) (at need : ℕ) (ds : Trees) : Type 0 where
+pub record Fillable (s : List ℕ) (l : Filling) (at need : ℕ) (ds : Trees) : Type 0 where
   pub defaults : Defaults s (l .from) (l .made) (l .places) ds at
   pub few : l .made ≤ l .places
   pub small : suc (l .size) ≤ mostNodes

@@ -1,8 +1,10 @@
 // What stands in the room is copied, repeated, or takes the place of something else. Nothing here calls back.
 ghost use mathlib.Core.Path.{_≡_};
 ghost use Prim.Native.Nat.{_-_, _≤_};
+ghost use Rattle.laws.specs.Accepted.{Accepted};
+ghost use Rattle.records.specs.Starts.{StartsOf, DeclaredIn};
+ghost use Rattle.shapes.specs.Classes.{Classes};
 ghost use Rattle.places.specs.Inside.{PlaceIn};
-ghost use Rattle.gather.specs.Room.{Given};
 ghost use Rattle.gather.specs.Copies.{CopiesWords, PushesWords, CopiesFields, CopiesStructure, CopiesDefault, MovesOn, Remains, CopiesList, PushesCopies, NextDefault, EachDefault, PushesDefaults, FillsOver, FillsRest, PutsHead, Heads, Finds, PutsMember};
 use crate::answers::Filling;
 use crate::answers::Listed;
@@ -339,7 +341,7 @@ pub fn find_field(
     room: &[u32],
     at: usize,
 ) -> Target
-    requires { ⌜ Given (now file) (now source) (now known) × PlaceIn (now file) place ⌝ }
+    requires { ⌜ StartsOf (now file) (now source) × Accepted (now file) × Classes (now file) (now known) × PlaceIn (now file) place × DeclaredIn (now file) (now source) ⌝ }
     ensures { λ r. ⌜ Finds (now (file .entry)) place e (now (room .entry)) at r ⌝ }
 {
     let name = word(file, source, ENTRIES, e, 1);

@@ -1,7 +1,8 @@
 // The defaults of an array's elements, listed flat: `build` forms them under a head, which is taken away.
 ghost use Prim.Native.Nat.{_+_, _*_};
 ghost use Rattle.places.specs.Inside.{PlaceIn};
-ghost use Rattle.gather.specs.Room.{Given, Known, RoomThere, shapesDeep};
+ghost use Rattle.build.specs.Built.{Ready};
+ghost use Rattle.gather.specs.Room.{RoomThere, shapesDeep};
 ghost use Rattle.gather.specs.Elements.{EndsWhole, TakesHead, ElementDefaults};
 use crate::answers::Listed;
 use build::built::Built;
@@ -41,7 +42,7 @@ pub fn element_defaults(
     room: &mut [u32],
     at: usize,
 ) -> Listed
-    requires { ⌜ Given (now file) (now source) (now known) × PlaceIn (now file) place × Known (now file) (now known) (now store) × RoomThere (now room) at (12282 + 24576 * shapesDeep (now file)) ⌝ }
+    requires { ⌜ Ready (now file) (now source) (now known) (now store) × PlaceIn (now file) place × RoomThere (now room) at (12282 + 24576 * shapesDeep (now file)) ⌝ }
     ensures { λ r. ⌜ ElementDefaults (now (file .entry)) (now (known .entry)) (now (store .entry)) place (now (room .entry)) at r (now (room .exit)) ⌝ }
 {
     let shape = place.shape;

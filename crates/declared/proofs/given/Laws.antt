@@ -33,7 +33,7 @@ use Rattle.build.specs.declared.built.Built.{Built}
 use Rattle.build.specs.declared.built.Built.the-variants as built
 use Rattle.build.specs.Built.{Gives, Builds, Ready}
 use Rattle.gather.specs.Answers as answers
-use Rattle.gather.specs.Room.{Given, Known, RoomThere, shapesDeep, rooms, Structure}
+use Rattle.gather.specs.Room.{RoomThere, shapesDeep, rooms, Structure}
 use Rattle.entries.specs.Entries.{runDepth, FieldsThere, BuildsArray}
 use Rattle.entries.specs.Entries as entering
 use Rattle.gather.proofs.Single.{node-kept}
@@ -41,13 +41,6 @@ use Rattle.declared.specs.Stated.{ArrayIn, MembersIn, SmallAt, Applies}
 use Rattle.declared.specs.Rooms.{entryLevels}
 
 -- ---- what `entries` asks of its arguments
-module _ {f source known store : List ℕ} (y : Ready f source known store) where
-  pub ready-given : Given f source known
-  ready-given = record { begins = y .starts; accepted = y .accepted; lowest = y .classed; declared = y .declared; tables = y .tables }
-
-  pub ready-known : Known f known store
-  ready-known = record { memo = y .memo; memory = y .memory }
-
 pub array-inside : {f : List ℕ} {first many : ℕ} → ArrayIn f first many → first + many ≤ count f entries
 array-inside i = i .inside
 
@@ -123,4 +116,4 @@ module _ {f source known store : List ℕ} (y : Ready f source known store) (pla
             kept = w .says (y .memo) (y .memory) (parts (z .tree)) (headed-so (z .tree) (z .small) (z .stands)) .kept ∙ node-kept u;
           }
 
-pub ruleset laws = (needs, ready-given, ready-known, array-inside, members-inside, array-there, members-there, array-given, members-other, members-given)
+pub ruleset laws = (needs, array-inside, members-inside, array-there, members-there, array-given, members-other, members-given)

@@ -318,7 +318,7 @@ pub +apply-members+array+expand+expand-all+fill+fill-values+member+member-struct
     expand-all-μ-loop
     (λ c. search nesting)
     (λ c. search lower)
-    (λ c κs. (search lower, (search lower, search lower, search lower, search lower, search nesting)))
+    (λ c κs. (search lower, (search lower, search lower, search lower, search nesting)))
     (λ c. search lower)
     (λ c. search lower)
     (λ c. search nesting)
@@ -426,7 +426,7 @@ pub +apply-members+array+expand+expand-all+fill+fill-values+member+member-struct
     (λ c. search lower)
     (λ c. search lower)
     (λ c. search nesting)
-    (λ c κs. (search lower, (search lower, search lower, search lower, search lower, search nesting)))
+    (λ c κs. (search lower, (search lower, search lower, search lower, search nesting)))
     (λ c κs. search lower)
     (λ c. search lower)
     (λ c. search nesting))
