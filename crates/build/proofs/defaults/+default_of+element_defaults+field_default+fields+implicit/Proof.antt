@@ -1,3 +1,4 @@
+-- The cycle of `default_of`, `element_defaults`, `field_default`, `fields`, `implicit` meets its contracts. Assumes nothing.
 use Prim.Native.Nat.{ℕ, _+_, _*_, _<_}
 use Rattle.build.specs.Parts.{startLevels, implicitLevels}
 use native.Mathlib.Omega.{arith}

@@ -1,3 +1,4 @@
+-- The cycle of `apply_members`, `array`, `expand`, `expand_all`, `fill`, `fill_values`, `member`, `member_structure`, `push_repeat`, `push_structure`, `repeat_entry`, `set_member` meets its contracts. Assumes nothing.
 use Rattle.definition.specs.Base.{onLink}
 use Rattle.definition.specs.Depth.{deepest, entryDepth}
 use Rattle.entries.proofs.Entering.{lower, entering}

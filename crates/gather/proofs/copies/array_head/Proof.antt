@@ -1,3 +1,4 @@
+-- `copies::array_head` meets its contract. Assumes nothing.
 use Rattle.gather.proofs.Arrays.{laws}
 use Rattle.gather.proofs.copies.array_head.Statement.{statement}
 use Rattle.gather.proofs.copies.array_head.Tie as tie

@@ -1,3 +1,4 @@
+-- `copies::copy_fields` meets its contract. Assumes nothing.
 use Rattle.gather.proofs.Copying.{laws}
 use Rattle.gather.proofs.copies.copy_fields.Statement.{statement}
 use Rattle.gather.proofs.copies.copy_fields.Tie as tie

@@ -1,3 +1,4 @@
+-- `copies::copy_list` meets its contract. Assumes nothing.
 use Rattle.gather.proofs.Copying.{lists, size-mul}
 use Rattle.gather.proofs.copies.copy_list.Statement.{statement}
 use Rattle.gather.proofs.copies.copy_list.Tie as tie

@@ -1,3 +1,4 @@
+-- `copies::copy_structure` meets its contract. Assumes nothing.
 use Rattle.gather.proofs.Copying.{laws}
 use Rattle.gather.proofs.copies.copy_structure.Statement.{statement}
 use Rattle.gather.proofs.copies.copy_structure.Tie as tie

@@ -1,3 +1,4 @@
+-- `copies::copy_words` meets its contract. Assumes nothing.
 use Rattle.gather.proofs.Copying.{laws}
 use Rattle.gather.proofs.copies.copy_words.Statement.{statement}
 use Rattle.gather.proofs.copies.copy_words.Tie as tie

@@ -1,3 +1,4 @@
+-- `copies::each_default` meets its contract. Assumes nothing.
 use Rattle.gather.proofs.Gathering.{laws, EachInv}
 use Rattle.gather.proofs.copies.each_default.Statement.{statement}
 use Rattle.gather.proofs.copies.each_default.Tie as tie

@@ -1,3 +1,4 @@
+-- `copies::fill_over` meets its contract. Assumes nothing.
 use Rattle.gather.proofs.Arrays.{laws}
 use Rattle.gather.proofs.copies.fill_over.Statement.{statement}
 use Rattle.gather.proofs.copies.fill_over.Tie as tie

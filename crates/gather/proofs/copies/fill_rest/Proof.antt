@@ -1,3 +1,4 @@
+-- `copies::fill_rest` meets its contract. Assumes nothing.
 use Rattle.gather.proofs.Arrays.{laws}
 use Rattle.gather.proofs.copies.fill_rest.Statement.{statement}
 use Rattle.gather.proofs.copies.fill_rest.Tie as tie

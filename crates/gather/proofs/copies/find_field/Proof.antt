@@ -1,3 +1,4 @@
+-- `copies::find_field` meets its contract. Assumes nothing.
 use Rattle.gather.proofs.Members.{laws}
 use Rattle.gather.proofs.copies.find_field.Statement.{statement}
 use Rattle.gather.proofs.copies.find_field.Tie as tie

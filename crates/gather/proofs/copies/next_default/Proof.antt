@@ -1,3 +1,4 @@
+-- `copies::next_default` meets its contract. Assumes nothing.
 use Rattle.gather.proofs.Copying.{laws}
 use Rattle.gather.proofs.copies.next_default.Statement.{statement}
 use Rattle.gather.proofs.copies.next_default.Tie as tie

@@ -1,3 +1,4 @@
+-- `copies::push_copies` meets its contract. Assumes nothing.
 use Rattle.gather.proofs.Copying.{lists}
 use Rattle.gather.proofs.copies.push_copies.Statement.{statement}
 use Rattle.gather.proofs.copies.push_copies.Tie as tie

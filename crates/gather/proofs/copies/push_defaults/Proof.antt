@@ -1,3 +1,4 @@
+-- `copies::push_defaults` meets its contract. Assumes nothing.
 use Rattle.gather.proofs.Gathering.{laws}
 use Rattle.gather.proofs.copies.push_defaults.Statement.{statement}
 use Rattle.gather.proofs.copies.push_defaults.Tie as tie

@@ -1,3 +1,4 @@
+-- `copies::push_words` meets its contract. Assumes nothing.
 use Rattle.gather.proofs.Copying.{pushes}
 use Rattle.gather.proofs.copies.push_words.Statement.{statement}
 use Rattle.gather.proofs.copies.push_words.Tie as tie

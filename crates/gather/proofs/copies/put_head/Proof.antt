@@ -1,3 +1,4 @@
+-- `copies::put_head` meets its contract. Assumes nothing.
 use Rattle.gather.proofs.Arrays.{laws}
 use Rattle.gather.proofs.copies.put_head.Statement.{statement}
 use Rattle.gather.proofs.copies.put_head.Tie as tie

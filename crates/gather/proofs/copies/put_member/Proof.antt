@@ -1,3 +1,4 @@
+-- `copies::put_member` meets its contract. Assumes nothing.
 use Rattle.gather.proofs.Members.{laws}
 use Rattle.gather.proofs.copies.put_member.Statement.{statement}
 use Rattle.gather.proofs.copies.put_member.Tie as tie

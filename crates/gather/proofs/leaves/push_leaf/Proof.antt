@@ -1,3 +1,4 @@
+-- `leaves::push_leaf` meets its contract. Assumes nothing.
 use Rattle.gather.proofs.Single.{laws}
 use Rattle.gather.proofs.leaves.push_leaf.Statement.{statement}
 use Rattle.gather.proofs.leaves.push_leaf.Tie as tie

@@ -1,3 +1,4 @@
+-- `leaves::push_one` meets its contract. Assumes nothing.
 use Rattle.gather.proofs.Single.{laws}
 use Rattle.gather.proofs.leaves.push_one.Statement.{statement}
 use Rattle.gather.proofs.leaves.push_one.Tie as tie

@@ -1,3 +1,4 @@
+-- `leaves::push_simple` meets its contract. Assumes nothing.
 use Rattle.gather.proofs.Single.{simples}
 use Rattle.gather.proofs.leaves.push_simple.Statement.{statement}
 use Rattle.gather.proofs.leaves.push_simple.Tie as tie

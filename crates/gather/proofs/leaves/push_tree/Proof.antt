@@ -1,3 +1,4 @@
+-- `leaves::push_tree` meets its contract. Assumes nothing.
 use Rattle.gather.proofs.Single.{laws}
 use Rattle.gather.proofs.leaves.push_tree.Statement.{statement}
 use Rattle.gather.proofs.leaves.push_tree.Tie as tie

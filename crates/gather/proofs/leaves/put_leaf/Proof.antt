@@ -1,3 +1,4 @@
+-- `leaves::put_leaf` meets its contract. Assumes nothing.
 use Rattle.gather.proofs.Single.{laws}
 use Rattle.gather.proofs.leaves.put_leaf.Statement.{statement}
 use Rattle.gather.proofs.leaves.put_leaf.Tie as tie

@@ -1,3 +1,4 @@
+-- `leaves::put_simple` meets its contract. Assumes nothing.
 use Rattle.gather.proofs.Single.{simples}
 use Rattle.gather.proofs.leaves.put_simple.Statement.{statement}
 use Rattle.gather.proofs.leaves.put_simple.Tie as tie

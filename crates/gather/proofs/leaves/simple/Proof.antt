@@ -1,3 +1,4 @@
+-- `leaves::simple` meets its contract. Assumes nothing.
 use Rattle.gather.proofs.Single.{laws}
 use Rattle.gather.proofs.leaves.simple.Statement.{statement}
 use Rattle.gather.proofs.leaves.simple.Tie as tie
