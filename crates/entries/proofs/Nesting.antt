@@ -1,79 +1,45 @@
 -- Structures, arrays and runs: the other returns of entries.rt. Assumes nothing.
 use mathlib.Core.Path.{_≡_, refl, ap, sym, _∙_}
-use mathlib.Core.Bool.{Bool, true, false}
-use mathlib.Core.Logic.{_⊎_, inl, inr, ⊎-elim}
-use mathlib.Core.List.{List, [], _∷_, _++_, append-nil}
-use Prim.Native.Nat.{ℕ, zero, suc, _+_, _-_, _*_, _^_, _≤_, _<_}
+use mathlib.Core.List.{List, [], _∷_}
+use Prim.Native.Nat.{ℕ, suc, _+_, _-_, _*_, _≤_, _<_}
 use native.Mathlib.Omega.{arith}
-use native.Mathlib.Nat.{add-zero}
 use types.Run.{OneOf, miss}
 use denote.Enum.Declared.{tagOf}
-use mir.Syntax.{w32}
-use mir.Val.{Fits}
 use borrow.Author.Needs.{needs}
-use borrow.Author.Tests.{le-leb, lt-leb, eq-eqb, ne-eqb}
-use borrow.Rule.Slice.PartMut.{putMid}
-use lib.Dec.{eqb, leb}
-use lib.ListN.{length, take, drop, length-append, length-drop, length-take, drop-of-length-le}
-use lib.Seq.{take-all, take-at, drop-at, length-take-le}
-use Rattle.definition.proofs.records.Entry as entry-tags
+use borrow.Author.Tests.{eq-eqb, ne-eqb}
+use lib.ListN.{length}
 use Rattle.definition.specs.declared.records.Place.{Place}
-use Rattle.definition.specs.declared.records.Entry.{Entry}
-use Rattle.definition.specs.declared.records.Entry.the-variants as entry
-use Rattle.definition.specs.Base.{choose, onLink}
 use Rattle.definition.specs.Layout.{count, entries}
-use Rattle.definition.specs.Records.{entryAt, entryName}
-use Rattle.definition.specs.Syntax.{Init, Inits, inil, icons, initFrom, initAt, initsAt}
-use Rattle.definition.specs.Tree.{Tree, Trees, node, tnil, tcons, head, parts, many, nodes, nodesIn, flatten, flattenAll, structureTree, arrayTree, one, named, rest, mostNodes}
-use Rattle.definition.specs.Ask.{Result, ok, none, large, Outcome, Ask, done, _>>=_, give, nothing, andMore, formed, gathered}
-use Rattle.definition.specs.Iec.{filled, assigned}
-use Rattle.definition.specs.Places.{leafPlace, fieldPlace}
-use Rattle.definition.specs.Defaults.{onNamed, onFirst, onFields, added, copied, defaulted, defaultOf, elementDefaults, expand, arrayBy, arrayOf}
+use Rattle.definition.specs.Syntax.{Init, Inits, initAt, initsAt}
+use Rattle.definition.specs.Tree.{Tree, Trees, tnil, tcons, head, parts, many, one, rest}
+use Rattle.definition.specs.Ask.{Result, ok, none, large, Outcome, Ask, _>>=_, nothing, andMore}
+use Rattle.definition.specs.Defaults.{onFields, added, expand}
 use Rattle.definition.specs.Defaults as Defs
 use Rattle.definition.specs.Resolve.{Memo}
 use Rattle.definition.specs.Peek.{got, wants, peek}
-use Rattle.definition.specs.Depth.{deepest, entryDepth, entryDepthFrom}
-use Rattle.laws.specs.Accepted.{Accepted}
-use Rattle.laws.specs.Asks.{OnOk}
-use Rattle.laws.specs.Decoded.{init-is, run-inits, inits-none, inits-next}
-use Rattle.laws.specs.Depths.{deepest-at, entry-depth-is, entry-depth-least, few-entries}
+use Rattle.definition.specs.Depth.{entryDepth}
+use Rattle.laws.specs.Decoded.{inits-none, inits-next}
+use Rattle.laws.specs.Depths.{deepest-at, entry-depth-least}
 use Rattle.laws.specs.Gathers.{Gathered, gathered-rest, gathered-parts}
-use Rattle.laws.specs.Links.{Link}
-use Rattle.laws.specs.Pointed.{EntryPointed, entry-pointed}
-use Rattle.laws.specs.Steps.{peek-done, peek-give, peek-nothing, peek-ok, peek-none, peek-large, peek-wanted}
-use Rattle.laws.specs.Values.{Small}
-use Rattle.laws.specs.Whole.{Good, Goods, nodes-named}
-use Rattle.places.specs.Inside.{PlaceIn, leaf-in}
-use Rattle.records.specs.Starts.{StartsOf}
-use Rattle.tree.specs.declared.extent.Extent.{Extent}
-use Rattle.tree.specs.declared.extent.Extent.the-variants as extent
-use Rattle.tree.specs.Words.{Stand, WroteNode}
-use Rattle.tree.specs.Node.{headWords}
-use Rattle.tree.specs.Part.{place}
-use Rattle.tree.proofs.Fields.{found-place, find-there, fieldAt, place-none, place-named, Named}
-use Rattle.tree.proofs.Stands.{stand-kept}
-use Rattle.tree.proofs.Standing.{wrote-so-is}
+use Rattle.laws.specs.Steps.{peek-nothing, peek-ok, peek-none, peek-large, peek-wanted}
+use Rattle.laws.specs.Whole.{Good, Goods}
 use Rattle.gather.proofs.answers.Listed as listed-tags
 use Rattle.build.proofs.built.Built as built-tags
-use Rattle.gather.proofs.copies.Target as target-tags
 use Rattle.build.specs.declared.built.Built.{Built}
 use Rattle.build.specs.declared.built.Built.the-variants as built
 use Rattle.gather.specs.declared.answers.Listed.{Listed}
 use Rattle.gather.specs.declared.answers.Listed.the-variants as listed
 use Rattle.gather.specs.declared.answers.Filling.{Filling}
-use Rattle.gather.specs.declared.copies.Target.{Target}
-use Rattle.gather.specs.declared.copies.Target.the-variants as target
-use Rattle.gather.specs.Answers.{TreeThere, Builds, ListThere, Lists, Placed, Filled}
+use Rattle.gather.specs.Answers.{Filled}
 use Rattle.build.specs.Built.{Memory, Ready}
-use Rattle.gather.specs.Room.{RoomThere, shapesDeep, rooms, Defaults, Fillable, Structure, Current, whole}
-use Rattle.gather.specs.Leaves.{simpleOf, pushed, PushesTree, PushesSimple, PutsSimple}
-use Rattle.gather.specs.Elements.{ElementDefaults}
-use Rattle.gather.specs.Copies.{Taken, Takes, TakesFirst, CopiesStructure, CopiesDefault, MovesOn, Remains, PushesCopies, PushesDefaults, defaultedOf, FillsRest, Heads, SetThere, Sets, SetsKept, Targets, Finds, PutsMember}
-use Rattle.entries.specs.Entries.{runDepth, EntryLink, DefaultsThere, RunThere, ValuesThere, FieldsThere, ValueThere, Expands, Repeats, RepeatsEntry, ExpandsStructure, ExpandsAll, BuildsArray, valuesOf, FillsArray, FillsValues, Applies, memberStep, SetsMember, BuildsMember, BuildsStructure}
-use Rattle.gather.proofs.Onward.{take-less, builds-as, lists-as, builds-same, lists-same}
+use Rattle.gather.specs.Room.{shapesDeep, rooms, Fillable, whole}
+use Rattle.gather.specs.Leaves.{pushed, PushesTree}
+use Rattle.gather.specs.Copies.{Taken, TakesFirst, CopiesDefault, MovesOn}
+use Rattle.entries.specs.Entries.{runDepth, DefaultsThere, RunThere, FieldsThere, Expands, ExpandsStructure, ExpandsAll, Applies}
+use Rattle.gather.proofs.Onward.{lists-as, lists-same}
 use Rattle.gather.proofs.Copying.{next-few}
-use Rattle.gather.proofs.Gathering.{SoFar, so-far-none, so-far-more, so-far-fails, so-far-all, now-at, Along, along-ready, along-next}
-use Rattle.entries.proofs.Entering.{fillable-less, current-less, structure-init, structure-depth, array-init, array-depth}
+use Rattle.gather.proofs.Gathering.{so-far-none, so-far-more, so-far-fails, so-far-all, now-at, Along, along-ready, along-next}
+use Rattle.entries.proofs.Entering.{fillable-less}
 
 -- ---- `push_structure`
 pub fields-some : (M : Memo) (t : Tree) (go : Trees → Ask Outcome) → head t .kind ≡ 14 → peek M (onFields t go) ≡ peek M (go (parts t))

@@ -1,26 +1,24 @@
 -- An array's values over its defaults, and its head: a law for each return of the functions in copies.rt. Assumes nothing.
 use mathlib.Core.Path.{_≡_, refl, ap, sym, _∙_}
-use mathlib.Core.Bool.{Bool, true, false, _&&_}
-use mathlib.Core.List.{List, [], _∷_, _++_}
-use Prim.Native.Nat.{ℕ, zero, suc, _+_, _-_, _*_, _/_, _^_, _≤_, _<_}
+use mathlib.Core.Bool.{Bool, true, false}
+use mathlib.Core.List.{List, [], _++_}
+use Prim.Native.Nat.{ℕ, suc, _+_, _-_, _*_, _/_, _^_, _≤_, _<_}
 use native.Mathlib.Omega.{arith}
-use native.Mathlib.Nat.{add-zero, zero-add}
 use mir.Syntax.{w64}
 use mir.Val.{Fits}
 use borrow.Author.Needs.{needs}
 use borrow.Author.Tests.{le-leb, lt-leb, leb-true, leb-false}
 use lib.Dec.{leb}
-use lib.ListN.{length, take, drop, length-append}
-use Rattle.definition.specs.Base.{pick, choose}
-use Rattle.definition.specs.Tree.{Tree, Trees, tnil, tcons, many, nodes, nodesIn, flatten, flattenAll, headed, arrayTree, join, rest, mostNodes}
-use Rattle.definition.specs.Ask.{Result, ok, none, large, Outcome, Ask, done, _>>=_, give, gathered}
+use lib.ListN.{length, drop}
+use Rattle.definition.specs.Base.{pick}
+use Rattle.definition.specs.Tree.{Trees, tnil, tcons, many, nodes, nodesIn, flattenAll, headed, arrayTree, rest, mostNodes}
+use Rattle.definition.specs.Ask.{ok, large, _>>=_, give, gathered}
 use Rattle.definition.specs.Iec.{filled}
 use Rattle.definition.specs.Resolve.{Memo}
-use Rattle.definition.specs.Peek.{got, wants, peek}
+use Rattle.definition.specs.Peek.{got, peek}
 use Rattle.laws.specs.Gathers.{Gathered, good-array, array-nameless}
 use Rattle.laws.specs.Steps.{peek-done, peek-give, peek-ok, peek-none, peek-large, peek-wanted}
-use Rattle.laws.specs.Values.{Small}
-use Rattle.laws.specs.Whole.{Good, Goods, flattenAll-length, flattenAll-join, goods-filled, nodes-some, nodes-headed}
+use Rattle.laws.specs.Whole.{flattenAll-length, flattenAll-join, goods-filled, nodes-some, nodes-headed}
 use Rattle.tree.specs.declared.extent.Extent.{Extent}
 use Rattle.tree.specs.declared.extent.Extent.the-variants as extent
 use Rattle.tree.specs.declared.grow.Span.{Span}
@@ -29,7 +27,7 @@ use Rattle.tree.specs.declared.grow.Grown.the-variants as grown
 use Rattle.tree.specs.Words.{Stand, WroteNode}
 use Rattle.tree.specs.Node.{headWords}
 use Rattle.tree.specs.Extent.{afterOf}
-use Rattle.tree.specs.Grow.{inOrder, tail, moved, orderedOf, replacedOf, Spliced, Splices, Replaced}
+use Rattle.tree.specs.Grow.{inOrder, tail, moved, replacedOf, Spliced, Replaced}
 use Rattle.tree.proofs.Fields.{Rest, rest-there}
 use Rattle.tree.proofs.Stands.{stand-rest, rest-stand}
 use Rattle.tree.proofs.Standing.{wrote-so-is, headed-there, spliced-size, spliced-words, many-filled}
@@ -37,8 +35,6 @@ use Rattle.build.specs.declared.built.Built.{Built}
 use Rattle.build.specs.declared.built.Built.the-variants as built
 use Rattle.gather.specs.declared.answers.Listed.{Listed}
 use Rattle.gather.specs.declared.answers.Listed.the-variants as listed
-use Rattle.gather.specs.declared.answers.Filling.{Filling}
-use Rattle.gather.specs.Answers.{TreeThere, Builds, ListThere, Lists}
 use Rattle.gather.specs.Room.{whole}
 use Rattle.gather.specs.Copies.{FillsOver, FillsRest, PutsHead, Heads}
 use Rattle.gather.proofs.Onward.{lists-as, lists-same, builds-same}

@@ -1,28 +1,28 @@
 -- A law for each return of copies.rt, and what its calls require. Assumes nothing.
 use mathlib.Core.Path.{_≡_, refl, ap, sym, _∙_}
 use mathlib.Core.Bool.{Bool, true, false, _&&_, _||_}
-use mathlib.Core.List.{List, [], _∷_, _++_}
+use mathlib.Core.List.{List, [], _∷_}
 use Prim.Native.Nat.{ℕ, zero, suc, _+_, _-_, _*_, _^_, _≤_, _<_}
 use native.Mathlib.Omega.{arith}
-use native.Mathlib.Nat.{add-zero, zero-add, zero-mul, suc-mul, mul-comm, mul-assoc}
+use native.Mathlib.Nat.{zero-add, zero-mul, suc-mul, mul-comm, mul-assoc}
 use types.Run.{OneOf, miss}
 use denote.Enum.Declared.{tagOf}
 use mir.Syntax.{w64}
 use mir.Val.{Fits}
 use borrow.Author.Needs.{needs}
-use borrow.Author.Tests.{le-leb, lt-leb, leb-true}
+use borrow.Author.Tests.{le-leb, leb-true}
 use lib.Dec.{leb}
 use lib.ListN.{length, take, drop}
 use lib.Seq.{paste}
 use mathlib.Core.Logic.{_⊎_, inl, inr, ⊎-elim}
 use Rattle.tree.proofs.part.Value.{the-type}
 use Rattle.definition.specs.Tree.{Tree, Trees, node, tnil, tcons, head, parts, many, nodes, nodesIn, flatten, flattenAll, headed, structureTree, one, times, rest, mostNodes}
-use Rattle.definition.specs.Ask.{Result, ok, none, large, Outcome, Ask, done, _>>=_}
-use Rattle.definition.specs.Defaults.{onFirst, added, copied, defaulted}
+use Rattle.definition.specs.Ask.{Result, none, Ask, _>>=_}
+use Rattle.definition.specs.Defaults.{onFirst, added, copied}
 use Rattle.definition.specs.Resolve.{Memo}
-use Rattle.definition.specs.Peek.{got, wants, peek}
+use Rattle.definition.specs.Peek.{got, peek}
 use Rattle.laws.specs.Cases.{both}
-use Rattle.laws.specs.Gathers.{Gathered, gathered-rest}
+use Rattle.laws.specs.Gathers.{gathered-rest}
 use Rattle.laws.specs.Steps.{peek-done, peek-ok, peek-none, peek-large, peek-wanted, peek-nothing}
 use Rattle.laws.specs.Whole.{Good, Goods, flatten-length, flattenAll-length, nodes-some, many-one, nodesIn-one, flattenAll-one, goods-one, many-rest, many-times, nodesIn-times, nodesIn-rest, goods-times}
 use Rattle.tree.specs.declared.extent.Extent.{Extent}
@@ -33,7 +33,7 @@ use Rattle.tree.specs.declared.grow.Grown.{Grown}
 use Rattle.tree.specs.declared.grow.Grown.the-variants as grown
 use Rattle.tree.specs.declared.limit.Added.{Added}
 use Rattle.tree.specs.declared.limit.Added.the-variants as more
-use Rattle.tree.specs.Words.{Stand, Wrote, WroteNode, WroteShift, movable, apart, rept}
+use Rattle.tree.specs.Words.{Stand, WroteNode, WroteShift, movable, apart, rept}
 use Rattle.tree.specs.Node.{headWords}
 use Rattle.tree.specs.Extent.{afterOf, wholeOf}
 use Rattle.tree.specs.Part.{valueAt, valueIs}
@@ -48,11 +48,10 @@ use Rattle.build.specs.declared.built.Built.the-variants as built
 use Rattle.gather.specs.declared.answers.Listed.{Listed}
 use Rattle.gather.specs.declared.answers.Listed.the-variants as listed
 use Rattle.gather.specs.declared.answers.Filling.{Filling}
-use Rattle.gather.specs.Answers.{TreeThere, Builds, ListThere, Lists}
+use Rattle.gather.specs.Answers.{Lists}
 use Rattle.gather.specs.Room.{Defaults, Fillable, Current}
-use Rattle.gather.specs.Leaves.{onAdded}
-use Rattle.gather.specs.Copies.{Taken, Takes, TakesFirst, CopiesWords, PushesWords, CopiesFields, CopiesStructure, CopiesDefault, MovesOn, Remains, CopiesList, PushesCopies, NextDefault}
-use Rattle.gather.proofs.Onward.{lists-as, lists-same, lists-added}
+use Rattle.gather.specs.Copies.{TakesFirst, CopiesWords, PushesWords, CopiesFields, CopiesStructure, CopiesDefault, MovesOn, Remains, CopiesList, PushesCopies, NextDefault}
+use Rattle.gather.proofs.Onward.{lists-as, lists-same}
 use Rattle.gather.proofs.Single.{paste-kept, wrote-kept, node-kept}
 
 -- ---- `copy_words`

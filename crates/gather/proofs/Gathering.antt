@@ -9,11 +9,9 @@ use types.Run.{OneOf, miss}
 use denote.Enum.Declared.{tagOf}
 use borrow.Author.Needs.{needs}
 use borrow.Author.Tests.{le-leb, lt-leb}
-use lib.Dec.{leb}
 use lib.ListN.{length, take}
-use Rattle.definition.specs.Base.{choose}
 use Rattle.definition.specs.Tree.{Tree, Trees, tnil, tcons, many, nodes, nodesIn, flattenAll, join, one, rest, mostNodes}
-use Rattle.definition.specs.Ask.{Result, ok, none, large, Ask, done, _>>=_, give, nothing, andMore}
+use Rattle.definition.specs.Ask.{Result, ok, none, large, Ask, _>>=_, give, nothing, andMore}
 use Rattle.definition.specs.Defaults.{onFirst, added, defaulted}
 use Rattle.definition.specs.Resolve.{Memo}
 use Rattle.definition.specs.Peek.{Peek, got, wants, peek}
@@ -32,8 +30,8 @@ use Rattle.gather.specs.declared.answers.Listed.the-variants as listed
 use Rattle.gather.specs.declared.answers.Filling.{Filling}
 use Rattle.gather.specs.Answers.{ListThere, Lists, Filled}
 use Rattle.gather.specs.Room.{Defaults, Fillable}
-use Rattle.gather.specs.Copies.{MovesOn, NextDefault, EachDefault, PushesDefaults, defaultedOf}
-use Rattle.gather.proofs.Onward.{take-less, lists-as, lists-same}
+use Rattle.gather.specs.Copies.{MovesOn, NextDefault, EachDefault, PushesDefaults}
+use Rattle.gather.proofs.Onward.{take-less, lists-as}
 
 -- ---- values behind others
 abbrev behindResult : Trees → Result Trees → Peek (Result Trees)

@@ -2,28 +2,27 @@
 use mathlib.Core.Path.{_≡_, refl, ap, sym, _∙_}
 use mathlib.Core.Bool.{Bool, true, false}
 use mathlib.Core.Logic.{inl, inr}
-use mathlib.Core.List.{List, _++_}
+use mathlib.Core.List.{List}
 use Prim.Native.Nat.{ℕ, suc, _+_, _-_, _*_, _≤_, _<_}
 use native.Mathlib.Omega.{arith}
 use borrow.Author.Needs.{needs}
-use borrow.Author.Tests.{le-leb, leb-true, leb-false}
+use borrow.Author.Tests.{leb-true, leb-false}
 use lib.Dec.{leb}
-use lib.ListN.{length, take, drop, set, length-set}
+use lib.ListN.{length, take, set, length-set}
 use lib.Seq.{take-take, take-append-le, take-set-le, length-take-le}
 use Rattle.definition.specs.declared.records.Place.{Place}
 use Rattle.definition.specs.Base.{pick}
 use Rattle.definition.specs.Layout.{word, entries}
 use Rattle.definition.specs.Records.{entryName}
 use Rattle.definition.specs.Tree.{Node, Tree, Trees, node, tcons, many, nodes, nodesIn, flatten, headed, structureTree, mostNodes}
-use Rattle.definition.specs.Ask.{Result, ok, none, large, Outcome, Ask, done, _>>=_, give, gathered}
+use Rattle.definition.specs.Ask.{large, Outcome, Ask, _>>=_, gathered}
 use Rattle.definition.specs.Iec.{assigned}
 use Rattle.definition.specs.Places.{fieldPlace}
 use Rattle.definition.specs.Resolve.{Memo}
-use Rattle.definition.specs.Peek.{got, wants, peek}
+use Rattle.definition.specs.Peek.{got, peek}
 use Rattle.laws.specs.Accepted.{Accepted}
-use Rattle.laws.specs.Gathers.{Gathered}
 use Rattle.laws.specs.Steps.{peek-ok, peek-none, peek-large, peek-wanted}
-use Rattle.laws.specs.Whole.{nodesIn-join, goods-assigned, many-assigned, flatten-length, nodes-some}
+use Rattle.laws.specs.Whole.{nodesIn-join, goods-assigned, many-assigned, flatten-length}
 use Rattle.places.specs.declared.field.Found.{Found}
 use Rattle.places.specs.declared.field.Found.the-variants as places
 use Rattle.places.specs.Found.{placeIn}
@@ -35,16 +34,15 @@ use Rattle.tree.specs.declared.grow.Grown.{Grown}
 use Rattle.tree.specs.declared.grow.Grown.the-variants as grown
 use Rattle.tree.specs.Words.{Stand}
 use Rattle.tree.specs.Part.{place, findOf}
-use Rattle.tree.specs.Grow.{inOrder, tail, moved, replacedOf, Spliced, Assigned, Assigns, renamed}
+use Rattle.tree.specs.Grow.{inOrder, moved, Spliced, Assigned, renamed}
 use Rattle.tree.proofs.Fields.{Named, place-named}
 use Rattle.tree.proofs.Standing.{assigned-limit, assigned-there}
 use Rattle.build.specs.declared.built.Built.{Built}
 use Rattle.build.specs.declared.built.Built.the-variants as built
-use Rattle.gather.specs.declared.copies.Target.{Target}
 use Rattle.gather.specs.declared.copies.Target.the-variants as target
-use Rattle.gather.specs.Answers.{TreeThere, Builds}
+use Rattle.gather.specs.Answers.{TreeThere}
 use Rattle.gather.specs.Room.{Structure}
-use Rattle.gather.specs.Copies.{SetThere, Sets, SetsKept, Targets, Finds, PutsMember}
+use Rattle.gather.specs.Copies.{SetThere, SetsKept, Finds, PutsMember}
 use Rattle.gather.proofs.Onward.{builds-as}
 use Rattle.gather.proofs.Arrays.{gathered-ok, gathered-large, replaced-is, in-order}
 

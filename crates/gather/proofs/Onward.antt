@@ -1,17 +1,14 @@
 -- From one answer to the next: what goes on after a value, and what stops. Assumes nothing.
 use mathlib.Core.Path.{_≡_, refl, ap, sym, _∙_}
 use mathlib.Core.List.{List}
-use Prim.Native.Nat.{ℕ, suc, _+_, _*_, _≤_}
-use native.Mathlib.Omega.{arith}
-use lib.ListN.{length, take}
+use Prim.Native.Nat.{ℕ, _+_, _*_, _≤_}
+use lib.ListN.{take}
 use lib.Seq.{take-take}
-use Rattle.definition.specs.Tree.{Tree, Trees, many, nodes, nodesIn, flattenAll, mostNodes}
-use Rattle.definition.specs.Ask.{Result, ok, none, large, Outcome, Ask, done, _>>=_}
+use Rattle.definition.specs.Tree.{Trees, many, nodesIn, flattenAll}
+use Rattle.definition.specs.Ask.{Result, Outcome, Ask}
 use Rattle.definition.specs.Resolve.{Memo}
-use Rattle.definition.specs.Peek.{got, wants, peek}
-use Rattle.laws.specs.Steps.{peek-ok, peek-none, peek-large, peek-wanted}
+use Rattle.definition.specs.Peek.{got, peek}
 use Rattle.laws.specs.Whole.{Goods}
-use Rattle.laws.specs.Gathers.{Gathered}
 use Rattle.tree.specs.Words.{Stand}
 use Rattle.tree.specs.declared.limit.Added.{Added}
 use Rattle.tree.specs.declared.limit.Added.the-variants as more
@@ -22,7 +19,7 @@ use Rattle.build.specs.declared.built.Built.the-variants as built
 use Rattle.gather.specs.declared.answers.Listed.{Listed}
 use Rattle.gather.specs.declared.answers.Listed.the-variants as listed
 use Rattle.gather.specs.declared.answers.Filling.{Filling}
-use Rattle.gather.specs.Answers.{TreeThere, Builds, ListThere, Lists}
+use Rattle.gather.specs.Answers.{Builds, Lists}
 use Rattle.gather.specs.Leaves.{onAdded}
 
 pub take-less : (s t : List ℕ) (a b : ℕ) → a ≤ b → take b s ≡ take b t → take a s ≡ take a t

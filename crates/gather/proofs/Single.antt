@@ -2,7 +2,7 @@
 use mathlib.Core.Path.{_≡_, refl, ap, sym, _∙_}
 use mathlib.Core.Bool.{Bool, true, false}
 use mathlib.Core.List.{List, [], _∷_, _++_, append-assoc}
-use Prim.Native.Nat.{ℕ, suc, _+_, _*_, _≤_, _<_}
+use Prim.Native.Nat.{ℕ, _+_, _*_, _≤_, _<_}
 use native.Mathlib.Omega.{arith}
 use types.Run.{OneOf, miss}
 use denote.Enum.Declared.{tagOf}
@@ -19,8 +19,8 @@ use Rattle.definition.specs.declared.records.Entry.the-variants as entry
 use Rattle.definition.specs.Layout.{count, entries, expressions}
 use Rattle.definition.specs.Records.{entryAt, constantAt}
 use Rattle.definition.specs.Syntax.{exprAt}
-use Rattle.definition.specs.Tree.{Tree, many, nodes, nodesIn, flatten, leaf, constantTree, one}
-use Rattle.definition.specs.Ask.{Result, ok, none, large, Outcome, Ask, done}
+use Rattle.definition.specs.Tree.{many, nodes, nodesIn, flatten, leaf, constantTree, one}
+use Rattle.definition.specs.Ask.{ok, none, Outcome, Ask, done}
 use Rattle.definition.specs.Scalar.{asTree, constantValue, enumeratedValue, expressionValue}
 use Rattle.definition.specs.Defaults.{added}
 use Rattle.definition.specs.Resolve.{Memo}
@@ -40,16 +40,16 @@ use Rattle.tree.specs.declared.extent.Extent.{Extent}
 use Rattle.tree.specs.declared.extent.Extent.the-variants as extent
 use Rattle.tree.specs.declared.limit.Added.{Added}
 use Rattle.tree.specs.declared.limit.Added.the-variants as more
-use Rattle.tree.specs.Words.{Stand, Wrote, WroteNode}
+use Rattle.tree.specs.Words.{Wrote, WroteNode}
 use Rattle.tree.specs.Limit.{addedOf}
-use Rattle.tree.proofs.Limits.{count-fits, size-fits, added-is, outcomeOf}
+use Rattle.tree.proofs.Limits.{count-fits, size-fits, added-is}
 use Rattle.tree.proofs.Standing.{wrote-so-is, leaf-there}
 use Rattle.build.specs.declared.built.Built.{Built}
 use Rattle.build.specs.declared.built.Built.the-variants as built
 use Rattle.gather.specs.declared.answers.Listed.{Listed}
 use Rattle.gather.specs.declared.answers.Listed.the-variants as listed
 use Rattle.gather.specs.declared.answers.Filling.{Filling}
-use Rattle.gather.specs.Answers.{TreeThere, Builds, ListThere, Lists}
+use Rattle.gather.specs.Answers.{TreeThere, Lists}
 use Rattle.gather.specs.Leaves.{simpleOf, onAdded, pushed, Puts, Pushes, PushesTree, PushesSimple, PutsSimple}
 use Rattle.gather.proofs.Onward.{builds-as, lists-added}
 

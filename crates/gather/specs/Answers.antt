@@ -2,7 +2,7 @@
 use mathlib.Core.Path.{_≡_}
 use mathlib.Core.List.{List}
 use lib.ListN.{take}
-use Prim.Native.Nat.{ℕ, suc, _+_, _*_, _≤_}
+use Prim.Native.Nat.{ℕ, _+_, _*_, _≤_}
 use Rattle.definition.specs.Tree.{Tree, Trees, many, nodes, nodesIn, flatten, flattenAll}
 use Rattle.definition.specs.Ask.{Result, ok, none, large, Outcome, Ask}
 use Rattle.definition.specs.Resolve.{Memo}
