@@ -11,10 +11,11 @@ use Rattle.laws.specs.Whole.{Good}
 use Rattle.tree.specs.Words.{Stand}
 use Rattle.gather.specs.declared.answers.Filling.{Filling}
 
--- two trees of 2,048 nodes for each level of entries and of shapes, and one more
+-- how deep the shapes of a file nest
 unfoldable pub shapesDeep : List ℕ → ℕ
 shapesDeep f = deepest (shapeDepth f) 0 (count f shapes)
 
+-- two trees of 2,048 nodes for each level of entries and of shapes, and one more
 abbrev pub rooms : List ℕ → ℕ → ℕ
 rooms f n = 12288 + 24576 * (n + shapesDeep f)
 
