@@ -1,15 +1,17 @@
-// The default of a type, by its declaration (`declared_default`, `type_default`).
+// The default of a type, by its declaration (`declared_default`, `block_default`, `type_default`).
 ghost use mathlib.Core.Path.{_≡_};
 ghost use Prim.Native.Nat.{_+_, _*_, _≤_, _<_};
 ghost use lib.ListN.{length};
 ghost use Rattle.definition.specs.Records.{declarationAt};
 ghost use Rattle.definition.specs.Defaults as Defaults;
-ghost use Rattle.definition.specs.Defaults.{bodyBy};
+ghost use Rattle.definition.specs.Layout.{variables};
+ghost use Rattle.definition.specs.Defaults.{bodyBy, instanceFrom, structured};
 ghost use Rattle.definition.specs.Tree.{flatten, treeWords};
 ghost use Rattle.laws.specs.Used.{IsType};
 ghost use Rattle.places.specs.Inside.{PlaceIn};
 ghost use Rattle.build.specs.Built.{Ready, Builds};
-ghost use Rattle.declared.specs.Rooms.{bodyLevelsBy, bodyLevels};
+ghost use Rattle.declared.specs.Stated.{PartsIn};
+ghost use Rattle.declared.specs.Rooms.{partsLevels, bodyLevelsBy, bodyLevels};
 use crate::alias::base_default;
 use crate::alias::simple_default;
 use crate::alias::subrange_default;
@@ -27,6 +29,35 @@ use definition::records::Place;
 use places::place::place_of;
 use records::view::declaration_at;
 use records::words::word;
+
+// An instance of a function block: its inputs, outputs and internal variables.
+fn block_default(
+    file: &[u32],
+    source: &[usize],
+    known: &[u32],
+    store: &[u32],
+    place: Place,
+    first: u32,
+    many: u32,
+    room: &mut [u32],
+    at: usize,
+) -> Built
+    requires { ⌜ Ready (now file) (now source) (now known) (now store) × PlaceIn (now file) place × PartsIn (now file) variables first many × (at + partsLevels (now file) place variables first many * treeWords ≤ length (now room)) ⌝ }
+    ensures { λ r. ⌜ Builds (now (file .entry)) (now (known .entry)) (now (store .entry)) flatten (structured (instanceFrom (now (file .entry)) first many)) at (now (room .entry)) r (now (room .exit)) ⌝ }
+{
+    parts(
+        file,
+        source,
+        known,
+        store,
+        place,
+        VARIABLES,
+        first,
+        many,
+        room,
+        at,
+    )
+}
 
 // The default that a type's declaration gives it.
 fn declared_default(
@@ -108,13 +139,12 @@ fn declared_default(
             at,
         ),
         Declaration::Reference { named: _ } => null_start(room, at),
-        Declaration::FunctionBlock { first, count } => parts(
+        Declaration::FunctionBlock { first, count } => block_default(
             file,
             source,
             known,
             store,
             place,
-            VARIABLES,
             first,
             count,
             room,

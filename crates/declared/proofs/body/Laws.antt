@@ -83,6 +83,11 @@ structure-is f place first many = ap structured (fun-ext (λ m. fun-ext (λ s. s
 block-is : (f : List ℕ) (place : Place) (first many : ℕ) → structured (instanceFrom f first many) ≡ structured (partsFrom f place variables first many)
 block-is f place first many = ap structured (fun-ext (λ m. fun-ext (λ s. sym (of-variables f place first many m s))))
 
+-- ---- `block_default`
+pub block-parts : {f known store : List ℕ} {at : ℕ} {old : List ℕ} {r : Built} {new : List ℕ} (place : Place) (first many : ℕ)
+    → Builds f known store flatten (structured (partsFrom f place 8 first many)) at old r new → Builds f known store flatten (structured (instanceFrom f first many)) at old r new
+block-parts {f} place first many h = same (structured (partsFrom f place 8 first many)) (structured (instanceFrom f first many)) (block-is f place first many) h
+
 -- ---- room
 module _ (f : List ℕ) (place : Place) (at n : ℕ) {d : Declaration} (h : at + bodyLevelsBy f place d * 12288 ≤ n) where
   at-view : {e : Declaration} → d ≡ e → at + bodyLevelsBy f place e * 12288 ≤ n
@@ -237,10 +242,10 @@ module _ (f : List ℕ) (t : ℕ) (place : Place) {d : Declaration} where
     unfolding bodyBy
     body-structure {first} {many} e h = same (structured (partsFrom f place 7 first many)) (bodyBy f t place d) (by-view e ∙ structure-is f place first many) h
 
-    pub body-block : {first many : ℕ} → d ≡ decl.FunctionBlock first many → Builds f known store flatten (structured (partsFrom f place 8 first many)) at old r new
+    pub body-block : {first many : ℕ} → d ≡ decl.FunctionBlock first many → Builds f known store flatten (structured (instanceFrom f first many)) at old r new
         → Builds f known store flatten (bodyBy f t place d) at old r new
     unfolding bodyBy
-    body-block {first} {many} e h = same (structured (partsFrom f place 8 first many)) (bodyBy f t place d) (by-view e ∙ block-is f place first many) h
+    body-block {first} {many} e h = same (structured (instanceFrom f first many)) (bodyBy f t place d) (by-view e) h
 
     pub body-reference : {name : ℕ} → d ≡ decl.Reference name → Lays (give nullTree) at old r new → Builds f known store flatten (bodyBy f t place d) at old r new
     unfolding bodyBy
@@ -287,4 +292,4 @@ module _ (f : List ℕ) (t : ℕ) {place : Place} (p : place ≡ placeOf f t) wh
     own-body h = same (bodyBy f t place d) (body f t) (rw (p, q)) h
 
 pub ruleset laws =
-    (needs, nothing-room, simple-room, subrange-room, string-room, array-room, entries-room, structure-room, block-room, reference-room, implicit-room, base-linked, subrange-spec, array-spec, array-in, structure-in, block-in, start-in, body-nothing, body-simple, body-subrange, body-string, body-array, body-structure, body-block, body-reference, body-unknown, body-implicit, type-fits, own-place, own-room, own-body)
+    (needs, block-parts, nothing-room, simple-room, subrange-room, string-room, array-room, entries-room, structure-room, block-room, reference-room, implicit-room, base-linked, subrange-spec, array-spec, array-in, structure-in, block-in, start-in, body-nothing, body-simple, body-subrange, body-string, body-array, body-structure, body-block, body-reference, body-unknown, body-implicit, type-fits, own-place, own-room, own-body)
