@@ -1,8 +1,10 @@
 // Answers as numbers, for C: the refusal's number alone where a function only passes or refuses; else it stands in the high word, and the value in the low one.
 ghost use mathlib.Core.Path.{_≡_};
 ghost use Prim.Native.Nat.{_*_, _^_};
-ghost use Rattle.definition.specs.Answers.{acceptanceSays, wordsSay, treeSays, passCode, valueCode};
+ghost use Rattle.definition.specs.Answers.{acceptanceSays, wordsSay, treeSays, completedSays, passCode, valueCode};
+ghost use Rattle.start_values.specs.Counted.{Counted};
 use definition::answers::Acceptance;
+use definition::answers::CompletedAnswer;
 use definition::answers::TreeAnswer;
 use definition::answers::WorkWords;
 
@@ -37,5 +39,17 @@ pub fn tree_code(answer: TreeAnswer) -> u64
         TreeAnswer::Tree(nodes) => nodes as u64,
         TreeAnswer::None => 0,
         TreeAnswer::Refused(n) => refusal_code(n),
+    }
+}
+
+// A completed initializer's kind stands above its nodes, of which there are at most 2,048.
+pub fn completed_code(answer: CompletedAnswer) -> u64
+    requires { ⌜ Counted answer ⌝ }
+    ensures { λ r. ⌜ r ≡ valueCode (completedSays answer) ⌝ }
+{
+    match answer {
+        CompletedAnswer::Completed(kind, nodes) => (kind as u64) * 65536 + nodes as u64,
+        CompletedAnswer::Left => 0,
+        CompletedAnswer::Refused(n) => refusal_code(n),
     }
 }

@@ -2,16 +2,16 @@
 use mathlib.Core.Path.{_≡_, refl}
 use mathlib.Core.Bool.{Bool, true, false}
 use mathlib.Core.List.{List, [], _∷_}
-use Prim.Native.Nat.{ℕ, _+_, _^_, _≤_, _<_}
+use Prim.Native.Nat.{ℕ, _≤_, _<_}
 use native.Mathlib.Omega.{arith}
-use lib.Dec.{eqb, leb, ltb}
+use lib.Dec.{ltb}
 use lib.ListN.{length, getD, set, drop}
 use borrow.Author.Needs.{needs}
 use borrow.Author.Tests.{lt-ltb, le-ltb, le-leb, lt-leb, ne-eqb}
 use Rattle.definition.specs.declared.records.Shape.{Shape}
 use Rattle.definition.specs.declared.records.Constant.{Constant}
 use Rattle.definition.specs.declared.answers.TreeAnswer.the-variants as tree
-use Rattle.definition.specs.Layout.{word, count, shapes, constants}
+use Rattle.definition.specs.Layout.{count, shapes, constants}
 use Rattle.definition.specs.Records.{shapeAt, constantAt}
 use Rattle.definition.specs.Accept.{verdict}
 use Rattle.definition.specs.Tree as tree-definition
