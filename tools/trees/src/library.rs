@@ -56,7 +56,8 @@ extern "C" {
     ) -> u64;
 }
 
-/// What is asked.
+/// What is asked; not every program here asks for all.
+#[allow(dead_code)]
 #[derive(Clone, Copy, Debug, PartialEq)]
 pub enum What {
     Type,

@@ -1,6 +1,6 @@
-//! `stack`: how many bytes of stack the library takes for entries that nest
-//! as deep as a file allows. For each kind of nesting and some depths the
-//! least stack is searched for with which a child of this program answers.
+//! `stack`: how many bytes of stack the library takes for what nests as deep
+//! as a file allows. For each kind of nesting the least stack is searched for
+//! with which a child of this program answers.
 
 #[path = "../library.rs"]
 mod library;
@@ -63,32 +63,79 @@ fn arrays(pairs: u32) -> Vec<u32> {
     ])
 }
 
-/// A variable of an array of INT with so many repeats, one in the other.
+/// A variable of an array of INT that is filled by one of some entries.
+fn array_of_int(entries: Vec<Vec<u32>>, first: u32) -> [Vec<Vec<u32>>; 14] {
+    let mut sections: [Vec<Vec<u32>>; 14] = Default::default();
+    sections[0] = vec![vec![254]];
+    sections[1] = vec![vec![1, 16, 0, 0, 0], vec![12, 0, 0, 1, 0]];
+    sections[4] = vec![vec![1, 1]];
+    sections[5] = vec![
+        vec![0, 0, 0, 0, 0, 0, 0, 0, 0, NONE, 0],
+        vec![1, 0, 1, 0, 0, 0, 0, 0, 0, NONE, 0],
+    ];
+    sections[8] = vec![vec![1, 4, 2, 0]];
+    sections[9] = vec![vec![9, 2, 0, 0, first, 1, 0, 0]];
+    sections[10] = entries;
+    sections[12] = vec![vec![1, 0, 5, 0, 0]];
+    sections
+}
+
+/// So many repeats, one in the other.
 fn repeats(depth: u32) -> Vec<u32> {
     let mut entries = vec![vec![0, 0, 0, 0]];
     for inner in 0..depth {
         entries.push(vec![6, 0, 1, inner + 1]);
     }
     let last = entries.len() as u32 - 1;
-    file([
-        vec![vec![254]],
-        vec![vec![1, 16, 0, 0, 0], vec![12, 0, 0, 1, 0]],
-        vec![],
-        vec![],
-        vec![vec![1, 1]],
-        vec![
-            vec![0, 0, 0, 0, 0, 0, 0, 0, 0, NONE, 0],
-            vec![1, 0, 1, 0, 0, 0, 0, 0, 0, NONE, 0],
-        ],
-        vec![],
-        vec![],
-        vec![vec![1, 4, 2, 0]],
-        vec![vec![9, 2, 0, 0, last, 1, 0, 0]],
-        entries,
-        vec![],
-        vec![vec![1, 0, 5, 0, 0]],
-        vec![],
-    ])
+    file(array_of_int(entries, last))
+}
+
+/// An array of INT with one entry, an expression in so many parentheses.
+fn parentheses(depth: u32) -> Vec<u32> {
+    let mut expressions = vec![vec![0, 0]];
+    for inner in 0..depth {
+        expressions.push(vec![2, inner]);
+    }
+    let last = expressions.len() as u32 - 1;
+    let mut sections = array_of_int(vec![vec![4, 0, last, 0]], 0);
+    sections[11] = expressions;
+    file(sections)
+}
+
+/// A type of so many structures, one in the other.
+fn structures(depth: u32) -> Vec<u32> {
+    let mut shapes = vec![vec![1, 16, 0, 0, 0]];
+    let mut fields = Vec::new();
+    for inner in 0..depth {
+        shapes.push(vec![11, inner, 1, 0, 0]);
+        fields.push(vec![1, inner, 0]);
+    }
+    let mut sections: [Vec<Vec<u32>>; 14] = Default::default();
+    sections[0] = vec![vec![254]];
+    sections[1] = shapes;
+    sections[3] = fields;
+    sections[5] = vec![vec![depth, 0, 0, 0, 0, 0, 0, 0, 0, NONE, 0]];
+    sections[8] = vec![vec![1, 4, 1, 0]];
+    sections[9] = vec![vec![3, 1, 0, 0, 0, 0, 0, 0]];
+    file(sections)
+}
+
+/// So many types, each an alias of the next.
+fn types(depth: u32) -> Vec<u32> {
+    let mut types = Vec::new();
+    let mut initializers = vec![vec![3, 1, 0, 0, 0, 0, 0, 0]];
+    for number in 0..depth {
+        types.push(vec![0, 0, 0, 0, 1, 0, number + 2, 0, 0, NONE, 0]);
+        initializers.push(vec![3, number + 2, 0, 0, 0, 0, 0, 0]);
+    }
+    types.push(vec![0, 0, 0, 0, 0, 0, 0, 0, 0, NONE, 0]);
+    let mut sections: [Vec<Vec<u32>>; 14] = Default::default();
+    sections[0] = vec![vec![254]];
+    sections[1] = vec![vec![1, 16, 0, 0, 0]];
+    sections[5] = types;
+    sections[8] = vec![vec![1, 4, 1, 0]];
+    sections[9] = initializers;
+    file(sections)
 }
 
 /// The last variable's answer, in a thread with so much stack.
@@ -107,7 +154,11 @@ fn run(words: Vec<u32>, variable: u32, bytes: usize) {
             &mut room,
         )
     });
-    println!("{:#x}", answered.expect("a thread").join().expect("an answer"));
+    let code = answered.expect("a thread").join().expect("an answer");
+    // A value, or too large: anything else means that the file is not what it should be.
+    if code >> 32 != 0 && code >> 32 != 8 {
+        exit(3);
+    }
 }
 
 fn passes(kind: &str, depth: u32, bytes: usize) -> bool {
@@ -142,19 +193,26 @@ fn main() {
         let (words, variable) = match kind.as_str() {
             "arrays" => (arrays(depth), 1),
             "repeats" => (repeats(depth), 0),
+            "parentheses" => (parentheses(depth), 0),
+            "structures" => (structures(depth), 0),
+            "types" => (types(depth), 0),
             _ => exit(2),
         };
         run(words, variable, bytes.parse().expect("a number of bytes"));
         return;
     }
-    for (kind, depths) in [("arrays", [1, 500, 1000, 4095]), ("repeats", [1, 1000, 4000, 8191])] {
-        let base = least(kind, depths[0]);
-        for depth in depths {
+    for (kind, most) in [
+        ("arrays", 4095),
+        ("repeats", 8191),
+        ("parentheses", 4095),
+        ("structures", 1023),
+        ("types", 1023),
+    ] {
+        let base = least(kind, 1);
+        for depth in [most / 2, most] {
             let bytes = least(kind, depth);
-            println!(
-                "{kind} {depth}: {bytes} bytes, {} a level above the first",
-                (bytes - base) / (depth as usize).max(2).saturating_sub(1)
-            );
+            let more = (bytes - base) / (depth as usize - 1);
+            println!("{kind} {depth}: {bytes} bytes, {more} for each after the first");
         }
     }
 }
