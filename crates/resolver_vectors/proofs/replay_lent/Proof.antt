@@ -1,0 +1,20 @@
+-- `replay_lent` meets its contract. Assumes nothing.
+use Rattle.resolver_vectors.proofs.Fronts.{fronts}
+use Rattle.resolver_vectors.proofs.replay_lent.Statement.{statement}
+use Rattle.resolver_vectors.proofs.replay_lent.Tie as tie
+
+pub replay-lent-spec : {M : Type 1} → statement M
+replay-lent-spec =
+    tie.close
+    (tie.spec
+    (λ c. search fronts)
+    (λ c. search fronts)
+    (λ c. search fronts)
+    (λ c. search fronts)
+    (λ c. search fronts)
+    (λ c. search fronts)
+    (λ c κs. search fronts)
+    (λ c. search fronts)
+    (λ c. search fronts)
+    (λ c. search fronts)
+    (λ c. search fronts))
