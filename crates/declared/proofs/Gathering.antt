@@ -27,7 +27,7 @@ use Rattle.build.specs.Fields.{HeadsStructure}
 use Rattle.build.proofs.Peeks.{thenPeek, peek-then, then-assoc, NoEnd, gives-fails, EndsAt, gives-ends, kept-before}
 use Rattle.build.proofs.leaves.Laws.{paste-kept}
 use Rattle.build.proofs.Gathers.{join-nil, behind, behind-nothing, behind-both, peek-more, no-trees, peek-structured, one-field, many-nil, nodes-nil, structure-gives}
-use Rattle.declared.specs.Stated.{partStart, isPart, partAsk, partsFrom, BuildsPart}
+use Rattle.initial.specs.Stated.{partStart, isPart, partAsk, partsFrom, BuildsPart}
 
 -- ---- what is left of the parts
 module _ (f : List ℕ) (place : Place) (section k : ℕ) {left : ℕ} (h : 0 < left) (made size : ℕ) where

@@ -27,7 +27,7 @@ use Rattle.build.specs.Parts.{placeDepth, implicitLevels, startLevels}
 use Rattle.build.proofs.Levels.{levels-most, depth-under}
 use Rattle.gather.specs.Room.{shapesDeep}
 use Rattle.entries.proofs.Levels.{rooms-within}
-use Rattle.declared.specs.Rooms.{entryLevels, initLevelsBy, initLevels, foundLevels, variableLevels, elementLevels, partLevels, partsLevels, aliasLevelsBy, aliasLevels, simpleLevels, bodyLevelsBy, bodyLevels}
+use Rattle.initial.specs.Rooms.{entryLevels, initLevelsBy, initLevels, foundLevels, variableLevels, elementLevels, partLevels, partsLevels, aliasLevelsBy, aliasLevels, simpleLevels, bodyLevelsBy, bodyLevels}
 
 -- every run of entries has room, and one tree more
 pub record Roomy (f : List ℕ) : Type 0 where

@@ -7,7 +7,7 @@ use Rattle.definition.specs.Layout.{count, types, variables}
 use Rattle.definition.specs.Tree.{treeWords}
 use Rattle.definition.specs.Answers.{roomWords}
 use Rattle.build.specs.Built.{Ready}
-use Rattle.declared.specs.Rooms.{bodyLevels, variableLevels}
+use Rattle.initial.specs.Rooms.{bodyLevels, variableLevels}
 use Rattle.declared.proofs.Roomy.{roomy, body-room, declaration-room}
 
 module _ {f source known store : List ℕ} (y : Ready f source known store) (n : ℕ) (h : roomWords f ≤ n) where

@@ -8,7 +8,7 @@ ghost use Rattle.definition.specs.Tree.{flatten};
 ghost use Rattle.build.specs.Built.{Builds, Ready};
 use build::built::Built;
 use declared::body::body;
-use declared::variable::declaration;
+use initial::variable::declaration;
 
 // The default of a type, as its own declaration says it.
 pub fn work_out(

@@ -34,12 +34,12 @@ use Rattle.build.proofs.built.Built as built
 use Rattle.build.specs.Built.{answerOf, Gives, Builds, Memory}
 use Rattle.build.specs.Parts.{implicitLevels}
 use Rattle.build.proofs.Levels.{levels-some}
-use Rattle.declared.specs.declared.values.Stated.the-variants as stated
-use Rattle.declared.specs.Stated.{Lays, statedAs, statedOr, arrayOr, membersOver, ArrayIn, MembersIn, AliasIn, SpecIn, StartIn, Over, aliasDefault, simpleDefault, baseDefault}
-use Rattle.declared.specs.Rooms.{entryLevels, aliasLevelsBy, aliasLevels, simpleLevels}
-use Rattle.declared.proofs.Alike.{same, no-value}
-use Rattle.declared.proofs.stated.Laws.{implicit-some, implicit-tree, stated}
-use Rattle.declared.proofs.start.Laws.{max-left, max-right, array-in, structure-in, block-in}
+use Rattle.initial.specs.declared.values.Stated.the-variants as stated
+use Rattle.initial.specs.Stated.{Lays, statedAs, statedOr, arrayOr, membersOver, ArrayIn, MembersIn, AliasIn, SpecIn, StartIn, Over, aliasDefault, simpleDefault, baseDefault}
+use Rattle.initial.specs.Rooms.{entryLevels, aliasLevelsBy, aliasLevels, simpleLevels}
+use Rattle.initial.proofs.Alike.{same, no-value}
+use Rattle.initial.proofs.stated.Laws.{implicit-some, implicit-tree, stated}
+use Rattle.initial.proofs.start.Laws.{max-left, max-right, array-in, structure-in, block-in}
 
 -- ---- room
 module _ (f : List ℕ) (place : Place) (at n : ℕ) where

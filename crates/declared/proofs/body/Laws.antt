@@ -34,11 +34,11 @@ use Rattle.build.specs.declared.built.Built.the-variants.{None}
 use Rattle.build.specs.Built.{Builds}
 use Rattle.build.specs.Parts.{implicitLevels}
 use Rattle.build.proofs.Levels.{levels-some}
-use Rattle.declared.specs.declared.values.Stated.the-variants as stated
-use Rattle.declared.specs.Stated.{Lays, statedAs, statedOr, arrayOr, ArrayIn, AliasIn, SpecIn, StartIn, elementStart, variableStart, partStart, isPart, partAsk, partsFrom, PartIn, PartsIn, simpleDefault, aliasDefault, baseDefault}
-use Rattle.declared.specs.Rooms.{entryLevels, partsLevels, simpleLevels, bodyLevelsBy, bodyLevels}
-use Rattle.declared.proofs.Alike.{same, laid, no-value}
-use Rattle.declared.proofs.start.Laws.{max-left, max-right}
+use Rattle.initial.specs.declared.values.Stated.the-variants as stated
+use Rattle.initial.specs.Stated.{Lays, statedAs, statedOr, arrayOr, ArrayIn, AliasIn, SpecIn, StartIn, elementStart, variableStart, partStart, isPart, partAsk, partsFrom, PartIn, PartsIn, simpleDefault, aliasDefault, baseDefault}
+use Rattle.initial.specs.Rooms.{entryLevels, partsLevels, simpleLevels, bodyLevelsBy, bodyLevels}
+use Rattle.initial.proofs.Alike.{same, laid, no-value}
+use Rattle.initial.proofs.start.Laws.{max-left, max-right}
 
 -- ---- parts of a structure and of a function block
 part-of-element : (f : List ℕ) (place : Place) (e size : ℕ) → partAsk f place elements e size ≡ elementStart f place e >>= field size (word f elements e 0)

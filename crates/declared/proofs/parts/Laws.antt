@@ -35,9 +35,9 @@ use Rattle.build.specs.Built.{Gives, Memory, Builds, Ready}
 use Rattle.build.specs.Fields.{NamesField}
 use Rattle.build.proofs.Peeks.{thenPeek, peek-then, NoEnd, ends-not, gives-fails, EndsAt, gives-ends, built-ends}
 use Rattle.build.proofs.defaults.Laws.{peek-named, peek-over, one-gives}
-use Rattle.declared.specs.Stated.{elementStart, variableStart, partStart, isPart, partAsk, partsFrom, BuildsPart, PartIn, PartsIn}
-use Rattle.declared.specs.Rooms.{foundLevels, initLevels, variableLevels, elementLevels, partLevels, partsLevels}
-use Rattle.declared.proofs.Alike.{same, no-value, at-found, at-none}
+use Rattle.initial.specs.Stated.{elementStart, variableStart, partStart, isPart, partAsk, partsFrom, BuildsPart, PartIn, PartsIn}
+use Rattle.initial.specs.Rooms.{foundLevels, initLevels, variableLevels, elementLevels, partLevels, partsLevels}
+use Rattle.initial.proofs.Alike.{same, no-value, at-found, at-none}
 
 -- ---- `element_start`
 module _ (f : List ℕ) (place : Place) (e : ℕ) {name : ℕ} (q : name ≡ word f elements e 0) (w : Found) (k : placeIn w ≡ fieldPlace f place name) where

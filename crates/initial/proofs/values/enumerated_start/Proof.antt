@@ -1,0 +1,15 @@
+-- `values::enumerated_start` meets its contract. Assumes nothing.
+use Rattle.initial.proofs.values.Laws.{laws}
+use Rattle.initial.proofs.values.enumerated_start.Statement.{statement}
+use Rattle.initial.proofs.values.enumerated_start.Tie as tie
+
+pub enumerated-start-spec : {M : Type 1} → statement M
+enumerated-start-spec =
+    tie.close
+    (tie.spec
+    (λ c κs. search laws)
+    (λ c κs. search laws)
+    (λ c κs. search laws)
+    (λ c κs. search laws)
+    (λ c. search laws)
+    (λ c. search laws))

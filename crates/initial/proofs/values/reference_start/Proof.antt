@@ -1,0 +1,13 @@
+-- `values::reference_start` meets its contract. Assumes nothing.
+use Rattle.initial.proofs.values.Laws.{laws}
+use Rattle.initial.proofs.values.reference_start.Statement.{statement}
+use Rattle.initial.proofs.values.reference_start.Tie as tie
+
+pub reference-start-spec : {M : Type 1} → statement M
+reference-start-spec =
+    tie.close
+    (tie.spec
+    (λ c κs. search laws)
+    (λ c κs. search laws)
+    (λ c. search laws)
+    (λ c. search laws))
