@@ -2,7 +2,7 @@
 use mathlib.Core.Path.{_≡_, refl, ap, sym, _∙_}
 use mathlib.Core.Bool.{Bool, true, false}
 use mathlib.Core.List.{List, [], _∷_}
-use Prim.Native.Nat.{ℕ, _+_, _*_, _^_, _≤_, _<_}
+use Prim.Native.Nat.{ℕ, _+_, _*_, _^_, _≤_}
 use native.Mathlib.Omega.{arith}
 use lib.Dec.{eqb, leb}
 use borrow.Author.Needs.{needs}
@@ -51,9 +51,6 @@ unfolding completedSays
 answer-counted f v out lines room e = record { few = λ kind n q. answer-few f v out kind n lines room (ap completedSays (sym q) ∙ e) }
 
 -- ---- `completed_code`: a law for each return
-pub counted-fits : {a : CompletedAnswer} → Counted a → {kind n : ℕ} → a ≡ completing.Completed kind n → kind < 2 ^ 32 → kind * 65536 + n < 2 ^ 64
-counted-fits c {kind} {n} e h = omega (arith, c .few kind n e)
-
 module _ {a : CompletedAnswer} where
   pub completed-kind : {kind n : ℕ} → a ≡ completing.Completed kind n → kind * 65536 + n ≡ valueCode (completedSays a)
   unfolding valueCode packed completedSays
@@ -67,6 +64,6 @@ module _ {a : CompletedAnswer} where
   unfolding valueCode completedSays
   completed-refused e h = rw e h
 
-pub ruleset completed-codes = (needs, counted-fits, completed-kind, completed-left, completed-refused)
+pub ruleset completed-codes = (needs, completed-kind, completed-left, completed-refused)
 
 pub ruleset completed-numbers = (numbers, answer-counted)

@@ -10,7 +10,7 @@ completed-code-spec =
     (λ c. search completed-codes)
     (λ c. search completed-codes)
     (λ c. search completed-codes)
-    (λ c. search completed-codes)
+    (λ c. let few = c .before .before .before .pre .few _ _ (c .before .answer .given .1) in search completed-codes)
     (λ c. search completed-codes)
     (λ c. search completed-codes)
     (λ c κs. search completed-codes)
