@@ -32,8 +32,8 @@ use Rattle.lines.proofs.Copying.{wrote-not-is}
 use Rattle.build.specs.declared.built.Built.{Built}
 use Rattle.build.specs.declared.built.Built.the-variants as built
 use Rattle.build.proofs.built.Built.{the-type}
-use Rattle.resolver.specs.Driver.{Given}
-use Rattle.resolver.specs.Told.{Ample, Tells}
+use Rattle.driver.specs.Driver.{Given}
+use Rattle.driver.specs.Told.{Ample, Tells}
 use Rattle.resolver.specs.Trees.{Writes, Answers, Passed}
 
 -- ---- `is_enough`

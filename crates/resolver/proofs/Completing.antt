@@ -26,7 +26,7 @@ use Rattle.complete.specs.declared.answer.Completion.{Completion}
 use Rattle.complete.specs.declared.answer.Completion.the-variants as answer
 use Rattle.complete.specs.Completion.{Completing}
 use Rattle.complete.proofs.Answering.{Takes, Leaves, answer-takes, answer-leaves}
-use Rattle.resolver.specs.Told.{Tells}
+use Rattle.driver.specs.Told.{Tells}
 use Rattle.resolver.specs.Trees.{Writes}
 use Rattle.resolver.specs.Completed.{withKind, WritesCompleted, AnswersCompleted}
 use Rattle.resolver.proofs.Answering.{TreeIn, tells-ends, tells-none, tells-large, tells-wanted}

@@ -1,11 +1,2 @@
-pub mod Tabling
-pub mod Working
-pub mod Widths
-pub mod Holdings
-pub mod Settling
-pub mod Asking
-pub mod Telling
 pub mod Answering
 pub mod Completing
-pub mod Types
-pub mod Sheets

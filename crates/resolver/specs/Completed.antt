@@ -11,7 +11,7 @@ use Rattle.definition.specs.Ask.{Outcome}
 use Rattle.definition.specs.Complete.{completion}
 use Rattle.definition.specs.Answers.{completedSays, completionAnswer, slotOut}
 use Rattle.build.specs.declared.built.Built.{Built}
-use Rattle.resolver.specs.Told.{Tells}
+use Rattle.driver.specs.Told.{Tells}
 
 -- what is answered of a tree, of one in the slot of an initializer of a kind
 unfoldable pub withKind : ℕ → TreeAnswer → CompletedAnswer

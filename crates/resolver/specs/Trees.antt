@@ -9,7 +9,7 @@ use Rattle.definition.specs.Ask.{Outcome}
 use Rattle.definition.specs.Answers.{lineWords, roomWords, treeSays, treeAnswer, treeOut}
 use Rattle.laws.specs.Accepted.{Accepted}
 use Rattle.build.specs.declared.built.Built.{Built}
-use Rattle.resolver.specs.Told.{Tells}
+use Rattle.driver.specs.Told.{Tells}
 
 pub record Writes (made : Built) (room : List ℕ) (old : List ℕ) (r : TreeAnswer) (new : List ℕ) : Type 0 where
   pub says : (o : Outcome) → Tells o made room → treeSays r ≡ treeAnswer o (length old)

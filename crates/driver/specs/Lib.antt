@@ -1,0 +1,5 @@
+pub mod Tables
+pub mod Driver
+pub mod Asked
+pub mod Told
+pub mod Every
