@@ -120,6 +120,30 @@ fn structures(depth: u32) -> Vec<u32> {
     file(sections)
 }
 
+/// So many types, each a structure of the one before, and a variable with as
+/// many member lists, one in the other.
+fn members(depth: u32) -> Vec<u32> {
+    let mut sections: [Vec<Vec<u32>>; 14] = Default::default();
+    sections[0] = vec![vec![254]];
+    sections[1] = vec![vec![1, 16, 0, 0, 0]];
+    sections[5] = vec![vec![0, 0, 0, 0, 0, 0, 0, 0, 0, NONE, 0]];
+    for inner in 0..depth {
+        sections[1].push(vec![11, inner, 1, 0, 0]);
+        sections[3].push(vec![1, inner, 0]);
+        sections[5].push(vec![inner + 1, 0, 0, 0, 5, 0, 0, inner, 1, NONE, 0]);
+        sections[7].push(vec![1, inner]);
+        sections[9].push(vec![0, inner + 1, 0, 0, 0, 0, 0, 0]);
+        sections[10].push(match inner {
+            0 => vec![0, 1, 0, 0],
+            _ => vec![3, 1, inner - 1, 1],
+        });
+    }
+    sections[8] = vec![vec![1, 4, depth + 1, depth]];
+    sections[9].push(vec![8, depth + 1, 0, 0, depth - 1, 1, 0, 0]);
+    sections[12] = vec![vec![1, 0, 5, 0, 0]];
+    file(sections)
+}
+
 /// So many types, each an alias of the next.
 fn types(depth: u32) -> Vec<u32> {
     let mut types = Vec::new();
@@ -195,6 +219,7 @@ fn main() {
             "repeats" => (repeats(depth), 0),
             "parentheses" => (parentheses(depth), 0),
             "structures" => (structures(depth), 0),
+            "members" => (members(depth), 0),
             "types" => (types(depth), 0),
             _ => exit(2),
         };
@@ -206,6 +231,7 @@ fn main() {
         ("repeats", 8191),
         ("parentheses", 4095),
         ("structures", 1023),
+        ("members", 1023),
         ("types", 1023),
     ] {
         let base = least(kind, 1);
