@@ -9,6 +9,7 @@ include!(concat!(env!("OUT_DIR"), "/modules.rs"));
 pub mod count;
 pub mod enumeration;
 mod nodes;
+pub mod parsed;
 pub mod semantic_context;
 mod shapes;
 pub mod standard_function_block;

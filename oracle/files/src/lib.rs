@@ -4,5 +4,6 @@ pub mod frames;
 pub mod layout;
 pub mod records;
 pub mod refusals;
+pub mod sheet;
 pub mod text;
 pub mod verdict;

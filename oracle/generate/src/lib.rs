@@ -3,6 +3,7 @@
 
 mod constants;
 mod draft;
+pub mod exhibits;
 mod families;
 pub mod lines;
 mod order;

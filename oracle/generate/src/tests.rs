@@ -44,3 +44,10 @@ fn file_when_small_then_a_third_under_200_words() {
         .count();
     assert!(short >= 1000, "{short} of 3000");
 }
+
+#[test]
+fn exhibit_when_of_any_size_then_accepted() {
+    for stations in [1, 5, 20, 50, 100] {
+        assert_eq!(verdict(&exhibits::exhibit(stations)), 0, "{stations} stations");
+    }
+}

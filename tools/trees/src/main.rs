@@ -6,6 +6,8 @@
 //! there, damaged files. What the work slices hold before a call is any words;
 //! afterwards all are 0. Fails on any difference.
 
+#[path = "../../sheets/src/lent.rs"]
+mod lent;
 mod library;
 
 use std::collections::BTreeSet;
@@ -18,11 +20,9 @@ use files::verdict::verdict;
 use generate::damage::damage;
 use generate::random::Random;
 use generate::{file, Size};
+use lent::Lent;
 use library::{ask, work_words, What};
 use oracle::outcome::{outcome, Outcome};
-
-/// What stands in a lent slice before a call.
-const LENT: u32 = 0xA5A5_A5A5;
 
 /// Words behind the longest answer.
 const BEHIND: usize = 7;
@@ -53,27 +53,6 @@ struct Expected {
     words: Vec<u32>,
 }
 
-struct Lent {
-    out: Vec<u32>,
-    lines: Vec<u32>,
-    room: Vec<u32>,
-}
-
-impl Lent {
-    /// Slices of so many words; the work slices hold what they held before,
-    /// with something in their first words.
-    fn of(&mut self, out: usize, lines: usize, room: usize) {
-        self.out.clear();
-        self.out.resize(out, LENT);
-        self.lines.resize(lines, 0);
-        self.room.resize(room, 0);
-        for slice in [&mut self.lines, &mut self.room] {
-            let dirty = slice.len().min(100);
-            slice[..dirty].fill(LENT);
-        }
-    }
-}
-
 /// Asks, and ends the run unless answer and slices are as expected.
 fn compare(what: What, words: &[u32], number: u32, lent: &mut Lent, expected: &Expected) {
     let code = ask(
@@ -84,15 +63,10 @@ fn compare(what: What, words: &[u32], number: u32, lent: &mut Lent, expected: &E
         &mut lent.lines,
         &mut lent.room,
     );
-    let (front, rest) = lent.out.split_at(expected.words.len().min(lent.out.len()));
-    let right = code == expected.code
-        && front == expected.words
-        && rest.iter().all(|&word| word == LENT)
-        && lent.lines.iter().all(|&word| word == 0)
-        && lent.room.iter().all(|&word| word == 0);
+    let right = code == expected.code && lent.holds(&expected.words);
     if !right {
         eprintln!("{what:?} {number}: {code:#x} and not {:#x}", expected.code);
-        eprintln!("out: {front:?} and not {:?}", expected.words);
+        eprintln!("out: {:?} and not {:?}", lent.out, expected.words);
         eprintln!("the file: {words:?}");
         exit(1);
     }
@@ -218,11 +192,7 @@ fn main() {
     };
     let mut random = Random::new(&[seed]);
     let mut counts = Counts::default();
-    let mut lent = Lent {
-        out: Vec::new(),
-        lines: Vec::new(),
-        room: Vec::new(),
-    };
+    let mut lent = Lent::default();
     for number in 0..count {
         let words = file(seed, number, size);
         compare_file(&mut counts, &mut random, &mut lent, &words);

@@ -16,10 +16,7 @@ pub(crate) struct Questions<'a> {
 
 impl<'a> Questions<'a> {
     pub(crate) fn about(context: &'a SemanticContext) -> Self {
-        let folder = InitialValueFolder {
-            types: context.types(),
-            resolver: Resolver::new(context.types(), context.type_defaults()),
-        };
+        let folder = Folding::of(context).folder;
         Questions { context, folder }
     }
 
@@ -52,5 +49,32 @@ impl<'a> Questions<'a> {
     fn fresh(&mut self) -> &mut InitialValueFolder<'a> {
         self.folder.resolver.renew(self.context.type_defaults());
         &mut self.folder
+    }
+}
+
+/// One resolver for all variables, as the compiler has it.
+pub(crate) struct Folding<'a> {
+    folder: InitialValueFolder<'a>,
+}
+
+impl<'a> Folding<'a> {
+    pub(crate) fn of(context: &'a SemanticContext) -> Self {
+        let resolver = Resolver::new(context.types(), context.type_defaults());
+        let types = context.types();
+        Folding {
+            folder: InitialValueFolder { types, resolver },
+        }
+    }
+
+    /// Whether `variable` starts with a value.
+    pub(crate) fn has_value(&mut self, variable: &VarDecl) -> bool {
+        self.folder.resolver.declaration(variable).is_some()
+    }
+
+    /// The completed initializer of `variable`; `None` if it is left.
+    pub(crate) fn completed(&mut self, variable: VarDecl) -> Option<InitialValueAssignmentKind> {
+        let Ok(variable) = self.folder.fold_var_decl(variable);
+        let initializer = variable.initializer;
+        initializer.is_completed().then_some(initializer)
     }
 }

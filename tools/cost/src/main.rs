@@ -1,0 +1,91 @@
+//! `cost TIMES exhibit STATIONS`, `cost TIMES wanting TYPES`,
+//! `cost TIMES chain BLOCKS ENTRIES FIELDS`: the start value of one variable of
+//! a file, by the proved static library and by the Rust, which resolves the
+//! declared types first as the library does. Under `valgrind --tool=callgrind` the inclusive
+//! instructions of `library_variable` and `rust_variable` are what each takes;
+//! without it the least time of several calls is printed.
+
+#[path = "../../trees/src/library.rs"]
+mod library;
+mod extremes;
+
+use std::env;
+use std::hint::black_box;
+use std::process::exit;
+use std::time::{Duration, Instant};
+
+use analyzer_254::parsed::Parsed;
+use files::layout::{File, VARIABLES};
+use files::verdict::verdict;
+use generate::exhibits::exhibit;
+use library::{ask, work_words, What};
+
+/// A tree has at most so many words.
+const TREE: usize = 2048 * 6;
+
+struct Lent {
+    out: Vec<u32>,
+    lines: Vec<u32>,
+    room: Vec<u32>,
+}
+
+#[inline(never)]
+fn library_variable(words: &[u32], number: u32, lent: &mut Lent) -> u64 {
+    ask(What::Variable, words, number, &mut lent.out, &mut lent.lines, &mut lent.room)
+}
+
+fn least(times: usize, mut call: impl FnMut() -> Duration) -> Duration {
+    (0..times).map(|_| call()).min().unwrap_or_default()
+}
+
+fn timed<T>(call: impl FnOnce() -> T) -> Duration {
+    let start = Instant::now();
+    black_box(call());
+    start.elapsed()
+}
+
+fn measure(words: &[u32], times: usize) {
+    let file = File::open(words).expect("it is a file");
+    let number = file.count(VARIABLES) - 5;
+    let [lines, room] = work_words(words).map(|count| count as usize);
+    let mut lent = Lent {
+        out: vec![0; TREE],
+        lines: vec![0; lines],
+        room: vec![0; room],
+    };
+    let code = library_variable(words, number as u32, &mut lent);
+    let said = match code >> 32 {
+        0 => format!("{code} nodes"),
+        number => format!("refused {number}"),
+    };
+    let library = least(times, || timed(|| library_variable(words, number as u32, &mut lent)));
+    println!("{} words, {lines} and {room} work words, {said}: library {library:?}", words.len());
+    let rust = least(times, || {
+        let parsed = Parsed::of(file);
+        timed(|| parsed.rust_variable(number))
+    });
+    println!("Rust {rust:?}");
+}
+
+/// The file of a family that is named with its numbers.
+fn file(family: &str, numbers: &[u32]) -> Option<Vec<u32>> {
+    match (family, numbers) {
+        ("exhibit", [stations]) => Some(exhibit(*stations)),
+        ("wanting", [types]) => Some(extremes::wanting(*types)),
+        ("chain", [blocks, pairs, fields]) => Some(extremes::chain(*blocks, *pairs, *fields)),
+        _ => None,
+    }
+}
+
+fn main() {
+    let arguments: Vec<String> = env::args().skip(1).collect();
+    let family = arguments.get(1).map_or("", String::as_str);
+    let numbers: Vec<u32> = arguments.iter().filter_map(|word| word.parse().ok()).collect();
+    let words = numbers.split_first().and_then(|(times, sizes)| Some((*times, file(family, sizes)?)));
+    let Some((times, words)) = words else {
+        eprintln!("usage: cost TIMES exhibit STATIONS | wanting TYPES | chain BLOCKS ENTRIES FIELDS");
+        exit(2);
+    };
+    assert_eq!(verdict(&words), 0, "refused");
+    measure(&words, times as usize);
+}
