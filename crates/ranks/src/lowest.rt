@@ -1,18 +1,21 @@
 // The lowest ranks that rise along every use, or that there are none because uses run in a circle (refusal 9).
+// A type is ranked after all that it uses, so each type is looked at once, and once more for each type that is ranked on its way.
 ghost use mathlib.Core.Path.{_≡_};
-ghost use Prim.Native.Nat.{_<_};
+ghost use Prim.Native.Nat.{_<_, _≤_};
 ghost use lib.ListN.{length};
 ghost use Rattle.definition.specs.Layout as Layout;
-ghost use Rattle.definition.specs.Uses.{uses, raise, rankAt, ranksOf};
+ghost use Rattle.definition.specs.Uses.{ranksOf};
 ghost use Rattle.laws.specs.Accepted.{Accepted};
 ghost use Rattle.records.specs.Starts.{StartsOf};
-ghost use Rattle.ranks.specs.Lowest.{Under, Passed, Lifted, Found};
+ghost use Rattle.ranks.specs.Lowest.{inProgress, unknown, Unknowns, Reached, Upto, Tells, RanksType, RanksNext, RanksAll, Found};
 use crate::above::RanksIn;
-use crate::above::higher;
 use crate::above::raised;
-use definition::layout::TYPES;
 use lines::clear::clear;
-use records::words::count;
+
+// The word of a type is its rank, or one of these: higher than any rank, and for an unknown type its number is added. It only falls.
+const IN_PROGRESS: u32 = 1024;
+
+const UNKNOWN: u32 = 2048;
 
 // The words hold the ranks, or there are none and the words are 0.
 pub enum Ranked {
@@ -20,70 +23,99 @@ pub enum Ranked {
     Circle,
 }
 
-// What a pass over all types did. `High`: a rank would be as high as there are types.
-pub enum Pass {
-    Same,
-    Raised,
-    High,
+// What the words of the types that a type uses say of its own.
+pub enum Next {
+    Rank(u32),
+    First(u32),
+    Circle,
 }
 
-// The lowest rank above all that a type uses, by the ranks in words.
-pub fn raised_in(file: &[u32], source: &[usize], ranks: &[u32], t: u32) -> usize
-    requires { ⌜ StartsOf (now file) (now source) ⌝ }
-    ensures { λ r. ⌜ r ≡ raise (rankAt (now (ranks .entry))) 0 (uses (now (file .entry)) t) ⌝ }
+fn forget(ranks: &mut [u32])
+    requires { ⌜ length (now ranks) ≤ inProgress ⌝ }
+    ensures { λ _. ⌜ Unknowns (length (now (ranks .entry))) (now (ranks .exit)) ⌝ }
 {
-    raised(file, source, RanksIn::Words, file, ranks, t)
-}
-
-// A type's rank is r at least. By how much it rose.
-fn lift(ranks: &mut [u32], t: u32, r: u32) -> usize
-    requires { ⌜ t < length (now ranks) ⌝ }
-    ensures { λ k. ⌜ Lifted t r (now (ranks .entry)) k (now (ranks .exit)) ⌝ }
-{
-    let i = t as usize;
-    let old = ranks[i];
-    if old < r {
-        ranks[i] = r;
-        return (r - old) as usize;
+    let mut i: usize = 0;
+    while i < ranks.len() {
+        ranks[i] = UNKNOWN + i as u32;
+        i += 1;
     }
-    0
 }
 
-// Every type raised once, in place: types that use lower numbers are right after one pass.
-fn pass_over(file: &[u32], source: &[usize], many: u32, ranks: &mut [u32]) -> Pass
-    requires { ⌜ StartsOf (now file) (now source) × Accepted (now file) × (many ≡ Layout.count (now file) Layout.types) × (length (now ranks) ≡ many) × Under many (uses (now file)) (now ranks) ⌝ }
-    ensures { λ r. ⌜ Passed many (uses (now (file .entry))) (now (ranks .entry)) r (now (ranks .exit)) ⌝ }
+// The highest word of a used type decides: one that is unknown has to be ranked first. A circle where one is in progress, or where the rank would be as high as there are types.
+fn next_of(file: &[u32], source: &[usize], ranks: &[u32], t: u32) -> Next
+    requires { ⌜ StartsOf (now file) (now source) × Reached (now file) t inProgress (now ranks) ⌝ }
+    ensures { λ r. ⌜ Tells (now (file .entry)) t (now (ranks .entry)) r ⌝ }
 {
-    let mut most: usize = 0;
-    for t in 0..many {
-        let r = raised_in(file, source, &ranks[..], t);
-        if r >= many as usize {
-            return Pass::High;
+    let high = raised(file, source, RanksIn::Words, file, ranks, t);
+    if high < ranks.len() {
+        return Next::Rank(high as u32);
+    }
+    if high > UNKNOWN as usize {
+        return Next::First((high - UNKNOWN as usize - 1) as u32);
+    }
+    Next::Circle
+}
+
+// An unknown type is ranked, behind all that it uses.
+fn rank_type(file: &[u32], source: &[usize], ranks: &mut [u32], t: u32) -> Ranked
+    requires { ⌜ StartsOf (now file) (now source) × Reached (now file) t (unknown t) (now ranks) ⌝ }
+    ensures { λ r. ⌜ RanksType (now (file .entry)) t (now (ranks .entry)) r (now (ranks .exit)) ⌝ }
+{
+    ranks[t as usize] = IN_PROGRESS;
+    loop {
+        let told = next_of(file, source, &ranks[..], t);
+        match told {
+            Next::Rank(r) => {
+                ranks[t as usize] = r;
+                return Ranked::Ranks;
+            }
+            Next::First(u) => {
+                let ranked = rank_type(file, source, ranks, u);
+                match ranked {
+                    Ranked::Ranks => {}
+                    Ranked::Circle => return ranked,
+                }
+            }
+            Next::Circle => return Ranked::Circle,
         }
-        most = higher(most, lift(ranks, t, r as u32));
     }
-    if most == 0 {
-        return Pass::Same;
-    }
-    Pass::Raised
 }
 
-// A pass that changes nothing ends it, and so does a rank that is too high: at most one pass more than there are types.
+// The next of all types, in rising number: it is ranked already if a type before it uses it.
+fn rank_next(file: &[u32], source: &[usize], ranks: &mut [u32], t: u32) -> Ranked
+    requires { ⌜ StartsOf (now file) (now source) × Upto (now file) t (now ranks) × (t < length (now ranks)) ⌝ }
+    ensures { λ r. ⌜ RanksNext (now (file .entry)) t r (now (ranks .exit)) ⌝ }
+{
+    if ranks[t as usize] < UNKNOWN {
+        return Ranked::Ranks;
+    }
+    rank_type(file, source, ranks, t)
+}
+
+fn rank_all(file: &[u32], source: &[usize], ranks: &mut [u32]) -> Ranked
+    requires { ⌜ StartsOf (now file) (now source) × Upto (now file) 0 (now ranks) ⌝ }
+    ensures { λ r. ⌜ RanksAll (now (file .entry)) r (now (ranks .exit)) ⌝ }
+{
+    let many = ranks.len() as u32;
+    for t in 0..many {
+        let ranked = rank_next(file, source, ranks, t);
+        match ranked {
+            Ranked::Ranks => {}
+            Ranked::Circle => return ranked,
+        }
+    }
+    Ranked::Ranks
+}
+
 pub fn lowest_ranks(file: &[u32], source: &[usize], ranks: &mut [u32]) -> Ranked
     requires { ⌜ StartsOf (now file) (now source) × Accepted (now file) × (length (now ranks) ≡ Layout.count (now file) Layout.types) ⌝ }
     ensures { λ r. ⌜ Found (ranksOf (now (file .entry))) (length (now (ranks .entry))) r (now (ranks .exit)) ⌝ }
 {
-    clear(ranks);
-    let many = count(file, source, TYPES);
-    loop {
-        let p = pass_over(file, source, many, ranks);
-        match p {
-            Pass::Same => return Ranked::Ranks,
-            Pass::Raised => {}
-            Pass::High => {
-                clear(ranks);
-                return Ranked::Circle;
-            }
-        }
+    forget(ranks);
+    let ranked = rank_all(file, source, ranks);
+    match ranked {
+        Ranked::Ranks => {}
+        Ranked::Circle => clear(ranks),
     }
+    ranked
 }
