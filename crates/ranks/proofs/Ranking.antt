@@ -1,13 +1,13 @@
 -- The laws of ranking one type behind another. Assumes nothing.
-use mathlib.Core.Path.{_≡_, refl, ap, sym, _∙_}
-use mathlib.Core.Bool.{Bool, true, false}
+use mathlib.Core.Path.{_≡_, refl, ap, sym}
+use mathlib.Core.Bool.{true}
 use mathlib.Core.Logic.{_⊎_, inl, inr, ⊎-elim}
 use mathlib.Core.List.{List, [], _∷_, List·Memᴰ, List·Memᴰ·head, List·Memᴰ·tail}
 use Prim.Native.Nat.{ℕ, zero, suc, max, _+_, _-_, _≤_, _<_}
 use native.Mathlib.Decide.{ℕ-discrete}
 use native.Mathlib.Omega.{arith}
 use lib.Dec.{eqb}
-use lib.ListN.{length, getD, set, length-set}
+use lib.ListN.{length, set, length-set}
 use lib.Seq.{getD-set-same, getD-set-other}
 use borrow.Author.Tests.{eq-eqb, ne-eqb}
 use Rattle.definition.specs.Base.{pick}
@@ -94,7 +94,6 @@ later-then few p q = record {
       (λ y. let z = y .1 in inr (y .0, omega (arith, later-stays q t l (omega arith))))
       (p .later t l);
 }
-
 
 later-total : {n : ℕ} {a b : List ℕ} → Later n a b → n ≤ inProgress → length a ≡ n → length b ≡ n → total b ≤ total a
 later-total {a = a} {b} p few i j =
@@ -263,9 +262,8 @@ module _ {f : List ℕ} {t : ℕ} {w : List ℕ} (i : Upto f t w) where
   upto-skip l h = upto-more l (i .words) later-same
       (⊎-elim (λ e. absurd (omega arith)) (λ y. ⊎-elim (λ e. absurd (i .idle t l e)) (λ k. k .below) y) (i .words .says t l))
 
-  pub upto-all : many f ≤ t → Lowest (many f) (uses f) (rankAt w)
-  upto-all h =
-      let x = i .words in
-      let few = x .few in
-      let rank : (s : ℕ) → s < many f → HasRank f w s = λ s l. low-rank x s l (omega (arith, i .low s (omega arith) l)) in
-      record { up = record { rises = λ s l. rank s l .over }; least = λ other o s l. rank s l .least other o }
+pub upto-all : {f w : List ℕ} → Upto f (many f) w → Lowest (many f) (uses f) (rankAt w)
+upto-all {f} {w} i =
+    let few = i .words .few in
+    let rank : (s : ℕ) → s < many f → HasRank f w s = λ s l. low-rank (i .words) s l (omega (arith, i .low s l l)) in
+    record { up = record { rises = λ s l. rank s l .over }; least = λ other o s l. rank s l .least other o }

@@ -2,18 +2,16 @@
 use mathlib.Core.Path.{_≡_, refl, ap, _∙_}
 use mathlib.Core.Logic.{inl}
 use mathlib.Core.List.{List}
-use Prim.Native.Nat.{ℕ, zero, suc, _+_, _-_, _^_, _≤_, _<_}
-use native.Mathlib.Decide.{ℕ-discrete}
+use Prim.Native.Nat.{ℕ, _+_, _-_, _^_, _≤_, _<_}
 use native.Mathlib.Omega.{arith}
-use lib.ListN.{length, getD, set, replicate, length-set}
+use lib.ListN.{length, getD, set, replicate}
 use lib.Seq.{getD-set-same, getD-set-other}
 use borrow.Author.Count.{below-more}
 use borrow.Author.Needs.{needs}
-use Rattle.definition.specs.Layout.{count, types}
 use Rattle.definition.specs.Answers.{cleared}
 use Rattle.definition.specs.Uses.{uses, raise, rankAt, ranked, circle, ranksOf}
 use Rattle.laws.specs.Accepted.{Accepted, few-types}
-use Rattle.laws.specs.Ranks.{Inside, Lowest, Round, is-ranking}
+use Rattle.laws.specs.Ranks.{Inside, Round, is-ranking}
 use Rattle.laws.specs.Used.{uses-inside}
 use Rattle.ranks.specs.declared.above.RanksIn.the-variants as from
 use Rattle.ranks.specs.declared.lowest.Ranked.{Ranked}
@@ -21,7 +19,7 @@ use Rattle.ranks.specs.declared.lowest.Ranked.the-variants.{Ranks, Circl
 use Rattle.ranks.specs.declared.lowest.Next.{Next}
 use Rattle.ranks.specs.declared.lowest.Next.the-variants as next
 use Rattle.ranks.specs.Above.{rankIn}
-use Rattle.ranks.specs.Lowest.{Found, many, inProgress, unknown, Unknowns, Reached, Upto, total, Tells, TellsOf, Done, RanksType, RanksNext, RanksAll}
+use Rattle.ranks.specs.Lowest.{Found, many, inProgress, unknown, Unknowns, Reached, Upto, total, Tells, TellsOf, Done, Ends}
 use Rattle.ranks.proofs.Ranking.{unknown-first, none-so-high, Goes, goes-start, goes-next, goes-less, goes-done, upto-start, upto-reached, upto-done, upto-skip, upto-all}
 
 -- ---- words of unknown types
@@ -63,60 +61,55 @@ rank-fits b h = omega (arith, b .words .few, b .words .long)
 
 pub ruleset telling = (needs, words-over, rank-fits, tells-rank, first-fits, tells-first, tells-circle)
 
--- ---- one type
+-- ---- what an answer says
+module _ {f : List ℕ} {A : Type 0} where
+  pub ends-ranks : {r : Ranked} → Ends f A r → r ≡ Ranks → A
+  ends-ranks x e = rw e at (x .ends)
+
+  pub ends-round : {r : Ranked} → Ends f A r → r ≡ Circle → Round (many f) (uses f)
+  ends-round x e = rw e at (x .ends)
+
+  pub ends-passed : {r : Ranked} → Ends f A r → r ≡ Circle → {B : Type 0} → Ends f B r
+  ends-passed x e = rw e (record { ends = ends-round x e })
+
+  pub ends-as : (r : Ranked) → Ends f A r → {B : Type 0} → (A → B) → Ends f B r
+  ends-as Ranks x h = record { ends = h (x .ends) }
+  ends-as Circle x h = record { ends = x .ends }
+
 pub tells-of : {f : List ℕ} {t : ℕ} {w : List ℕ} {r : Next} → Tells f t w r → {q : Next} → r ≡ q → TellsOf f t w q
 tells-of x e = rw e at (x .tells)
 
-module _ {f : List ℕ} {t : ℕ} {old : List ℕ} (a : Reached f t (unknown t) old) {w : List ℕ} (g : Goes f t (set old t 1024) w) {r : Next} (x : Tells f t w r) where
-  pub type-ranked : {k : ℕ} → r ≡ next.Rank k → RanksType f t old Ranks (set w t k)
-  type-ranked e = let y = tells-of x e in record { ranks = goes-done a g (y .0) (y .1) }
+-- ---- one type
+pub type-room : {f : List ℕ} {t v : ℕ} {w : List ℕ} → Reached f t v w → t < length w
+type-room b = omega (arith, b .inside, b .words .long)
 
-  pub type-circle : r ≡ next.Circle → {new : List ℕ} → RanksType f t old Circle new
-  type-circle e = record { ranks = tells-of x e }
+pub type-first : {f : List ℕ} {t u : ℕ} {w : List ℕ} {r : Next} → Tells f t w r → r ≡ next.First u → Reached f u (unknown u) w
+type-first x e = tells-of x e
 
-module _ {f : List ℕ} {t : ℕ} {w : List ℕ} {r : Ranked} {new : List ℕ} (x : RanksType f t w r new) where
-  pub type-done : r ≡ Ranks → Done f t w new
-  type-done e = rw e at (x .ranks)
+module _ {f : List ℕ} {t : ℕ} {start w : List ℕ} (g : Goes f t start w) where
+  pub type-reached : Reached f t 1024 w
+  type-reached = g .reached
 
-  pub type-round : r ≡ Circle → Round (many f) (uses f)
-  type-round e = rw e at (x .ranks)
+  pub type-long : {old : List ℕ} → Reached f t (unknown t) old → (new : List ℕ) → length new ≡ length w → length new ≡ length old
+  type-long a new e = omega (arith, g .reached .words .long, a .words .long)
 
--- what the code asks of the words
-module _ {f : List ℕ} {t v : ℕ} {w : List ℕ} (b : Reached f t v w) where
-  pub type-room : t < length w
-  type-room = omega (arith, b .inside, b .words .long)
+  pub type-on : {u : ℕ} {r : Ranked} {new : List ℕ} → Ends f (Done f u w new) r → r ≡ Ranks → Goes f t start new
+  type-on x e = goes-next g (ends-ranks x e)
 
-pub goes-reached : {f : List ℕ} {t : ℕ} {start w : List ℕ} → Goes f t start w → Reached f t 1024 w
-goes-reached g = g .reached
+pub type-less : {f : List ℕ} {u : ℕ} {w new : List ℕ} {r : Ranked} → Ends f (Done f u w new) r → r ≡ Ranks → total new < total w
+type-less x e = ends-ranks x e .less
 
-pub goes-room : {f : List ℕ} {t : ℕ} {start w : List ℕ} → Goes f t start w → t < length w
-goes-room g = type-room (g .reached)
+module _ {f : List ℕ} {t : ℕ} {old : List ℕ} (a : Reached f t (unknown t) old) {w : List ℕ} (g : Goes f t (set old t 1024) w) where
+  pub type-falls : {m : ℕ} → total old ≡ m → total w < m
+  type-falls e = omega (arith, goes-less a g)
 
-pub long-same : {f : List ℕ} {t : ℕ} {start w old : List ℕ} → Goes f t start w → Reached f t (unknown t) old → length w ≡ length old
-long-same g a = omega (arith, g .reached .words .long, a .words .long)
+  pub type-ranked : {r : Next} → Tells f t w r → {k : ℕ} → r ≡ next.Rank k → Ends f (Done f t old (set w t k)) Ranks
+  type-ranked x e = let y = tells-of x e in record { ends = goes-done a g (y .0) (y .1) }
 
-pub long-set : {f : List ℕ} {t : ℕ} {start w old : List ℕ} → Goes f t start w → Reached f t (unknown t) old → (k : ℕ) → length (set w t k) ≡ length old
-long-set {t} {w = w} g a k = length-set w t k ∙ long-same g a
+pub type-circle : {f : List ℕ} {t : ℕ} {w : List ℕ} {r : Next} → Tells f t w r → r ≡ next.Circle → {A : Type 0} → Ends f A Circle
+type-circle x e = record { ends = tells-of x e }
 
-pub long-after : {f : List ℕ} {t : ℕ} {start w old : List ℕ} → Goes f t start w → Reached f t (unknown t) old → (new : List ℕ) → length new ≡ length w → length new ≡ length old
-long-after g a new e = e ∙ long-same g a
-
-pub goes-first : {f : List ℕ} {t u : ℕ} {w : List ℕ} {r : Next} → Tells f t w r → r ≡ next.First u → Reached f u (unknown u) w
-goes-first x e = tells-of x e
-
-pub goes-on : {f : List ℕ} {t u : ℕ} {start w new : List ℕ} {r : Ranked} → Goes f t start w → RanksType f u w r new → r ≡ Ranks → Goes f t start new
-goes-on g x e = goes-next g (type-done x e)
-
-pub goes-falls : {f : List ℕ} {t : ℕ} {old w : List ℕ} → Reached f t (unknown t) old → Goes f t (set old t 1024) w → {m : ℕ} → total old ≡ m → total w < m
-goes-falls a g e = omega (arith, goes-less a g)
-
-pub done-less : {f : List ℕ} {u : ℕ} {w new : List ℕ} {r : Ranked} → RanksType f u w r new → r ≡ Ranks → total new < total w
-done-less x e = type-done x e .less
-
-pub type-stops : {f : List ℕ} {t u : ℕ} {w new old : List ℕ} {r : Ranked} → RanksType f u w r new → r ≡ Circle → RanksType f t old r new
-type-stops x e = rw e (record { ranks = type-round x e })
-
-pub ruleset typing = (needs, goes-start, type-room, goes-reached, goes-room, goes-first, goes-on, goes-falls, done-less, long-same, long-set, long-after, type-ranked, type-circle, type-stops)
+pub ruleset typing = (needs, goes-start, type-room, type-first, type-reached, type-long, type-on, type-less, type-falls, type-ranked, type-circle, ends-passed)
 
 -- ---- the next type
 module _ {f : List ℕ} {t : ℕ} {w : List ℕ} (i : Upto f t w) (l : t < length w) where
@@ -127,13 +120,12 @@ module _ {f : List ℕ} {t : ℕ} {w : List ℕ} (i : Upto f t w) (l : t < lengt
   unfolding rankAt
   next-reached h = upto-reached i next-inside h
 
-  pub next-skips : getD w t 0 < 2048 → RanksNext f t Ranks w
+  pub next-skips : getD w t 0 < 2048 → Ends f (Upto f (t + 1) w) Ranks
   unfolding rankAt
-  next-skips h = record { next = upto-skip i next-inside h }
+  next-skips h = record { ends = upto-skip i next-inside h }
 
-  pub next-ranked : (r : Ranked) {new : List ℕ} → RanksType f t w r new → RanksNext f t r new
-  next-ranked Ranks x = record { next = upto-done i next-inside (x .ranks) }
-  next-ranked Circle x = record { next = x .ranks }
+  pub next-ranked : {r : Ranked} {new : List ℕ} → Ends f (Done f t w new) r → Ends f (Upto f (t + 1) new) r
+  next-ranked {r} x = ends-as r x (upto-done i next-inside)
 
 pub ruleset nexts = (needs, next-reached, next-skips, next-ranked)
 
@@ -142,57 +134,47 @@ module _ {f : List ℕ} {t : ℕ} {w : List ℕ} (i : Upto f t w) where
   pub all-fit : length w < 2 ^ 32
   all-fit = omega (arith, i .words .few, i .words .long)
 
+  pub all-many : {n : ℕ} → n ≡ length w → n ≡ many f
+  all-many e = omega (arith, i .words .long)
+
   pub all-room : {n : ℕ} → n ≡ many f → t < n → t < length w
   all-room e l = omega (arith, i .words .long)
-
-  pub all-many : (v : List ℕ) → v ≡ w → {n : ℕ} → n ≡ length v → n ≡ many f
-  all-many v e q = omega (arith, i .words .long, ap length e)
 
   pub all-long : {s : ℕ} {v : List ℕ} → Upto f s v → length v ≡ length w
   all-long j = omega (arith, i .words .long, j .words .long)
 
-  pub all-ranked : {n : ℕ} → n ≡ many f → n ≤ t → RanksAll f Ranks w
-  all-ranked e l = record { long = i .words .long; all = upto-all i (omega arith) }
+  pub all-ranked : {n : ℕ} → n ≡ many f → n ≤ t → Ends f (Upto f (many f) w) Ranks
+  all-ranked e l = record { ends = record { words = i .words; idle = i .idle; low = λ s j k. i .low s (omega arith) k } }
 
-  pub all-circle : {r : Ranked} {new : List ℕ} → RanksNext f t r new → length new ≡ length w → r ≡ Circle → RanksAll f r new
-  all-circle x l e = rw e (record { long = omega (arith, i .words .long); all = rw e at (x .next) })
+pub all-on : {f : List ℕ} {t : ℕ} {w : List ℕ} {r : Ranked} → Ends f (Upto f t w) r → r ≡ Ranks → Upto f t w
+all-on x e = ends-ranks x e
 
-pub all-on : {f : List ℕ} {t : ℕ} {r : Ranked} {w : List ℕ} → RanksNext f t r w → r ≡ Ranks → Upto f (t + 1) w
-all-on x e = rw e at (x .next)
-
-pub ruleset everything = (needs, all-fit, all-room, all-many, all-long, all-on, all-ranked, all-circle)
+pub ruleset everything = (needs, all-fit, all-room, all-many, all-long, all-on, all-ranked, ends-passed)
 
 -- ---- the answer
 module _ {f : List ℕ} (a : Accepted f) where
   inside : Inside (many f) (uses f)
   inside = record { inside = λ t k. uses-inside f a t k }
 
-  pub found-few : {n : ℕ} → n ≡ count f types → n ≤ 1024
-  found-few e = omega (arith, few-types f a)
+  pub answer-few : {n : ℕ} → n ≡ many f → n ≤ 1024
+  answer-few e = omega (arith, few-types f a)
 
-  pub found-start : (w : List ℕ) {n : ℕ} → Unknowns n w → n ≡ count f types → length w ≡ n → Upto f 0 w
-  found-start w u e l =
+  pub answer-start : (w : List ℕ) {n : ℕ} → Unknowns n w → n ≡ many f → length w ≡ n → Upto f 0 w
+  answer-start w u e l =
       upto-start
-      (record {
-        inside = inside;
-        few = few-types f a;
-        long = omega arith;
-        says = λ t k. inl (u .word t (omega arith));
-      })
+      (record { inside = inside; few = few-types f a; long = omega arith; says = λ t k. inl (u .word t (omega arith)) })
       (record { word = λ t k. u .word t (omega arith) })
 
-  module _ {r : Ranked} {w : List ℕ} (x : RanksAll f r w) where
-    pub found-ranks : r ≡ Ranks → {n : ℕ} → Found (ranksOf f) n r w
+  module _ {r : Ranked} {w : List ℕ} (x : Ends f (Upto f (many f) w) r) where
+    pub answer-ranks : r ≡ Ranks → {n : ℕ} → Found (ranksOf f) n r w
     unfolding ranksOf
-    found-ranks e =
-        let y : Lowest (many f) (uses f) (rankAt w) = rw e at (x .all) in
-        rw (e, ← is-ranking (many f) (uses f) inside (ranked w) (x .long, y)) (record { says = refl; wrote = refl })
+    answer-ranks e =
+        let y : Upto f (many f) w = ends-ranks x e in
+        rw (e, ← is-ranking (many f) (uses f) inside (ranked w) (y .words .long, upto-all y)) (record { says = refl; wrote = refl })
 
-    pub found-circle : r ≡ Circle → {n : ℕ} → n ≡ many f → {new : List ℕ} → new ≡ cleared w → Found (ranksOf f) n r new
+    pub answer-circle : r ≡ Circle → {m n : ℕ} → length w ≡ m → m ≡ n → {new : List ℕ} → new ≡ cleared w → Found (ranksOf f) n r new
     unfolding ranksOf cleared
-    found-circle e {n} l q =
-        let y : Round (many f) (uses f) = rw e at (x .all) in
-        let k : length w ≡ n = omega (arith, x .long) in
-        rw (e, ← is-ranking (many f) (uses f) inside circle y) (record { says = refl; wrote = q ∙ ap (λ (k : ℕ). replicate k 0) k })
+    answer-circle e l k q =
+        rw (e, ← is-ranking (many f) (uses f) inside circle (ends-round x e)) (record { says = refl; wrote = q ∙ ap (λ (k : ℕ). replicate k 0) (l ∙ k) })
 
-pub ruleset finding = (needs, found-few, found-start, found-ranks, found-circle)
+pub ruleset answering = (needs, answer-few, answer-start, answer-ranks, answer-circle)

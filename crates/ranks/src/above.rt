@@ -30,7 +30,7 @@ pub enum Run {
     BlockFields,
 }
 
-pub fn higher(a: usize, b: usize) -> usize
+fn higher(a: usize, b: usize) -> usize
     ensures { λ r. ⌜ r ≡ max a b ⌝ }
 {
     if a < b {
@@ -215,40 +215,22 @@ fn above_declaration(
         Declaration::Simple { initializer } => {
             above_start(file, source, from, index, words, initializer, high)
         }
-        Declaration::Subrange { named, start: _ } => above_name(from, index, words, named, high),
-        Declaration::String { start: _ } => high,
-        Declaration::Array {
-            named,
-            first: _,
-            count: _,
-        } => above_name(from, index, words, named, high),
-        Declaration::Structure { first, count } => above_run(
-            file,
-            source,
-            from,
-            index,
-            words,
-            Run::Elements,
-            first,
-            count,
-            high,
-        ),
+        Declaration::Subrange { named, .. } => above_name(from, index, words, named, high),
+        Declaration::String { .. } => high,
+        Declaration::Array { named, .. } => above_name(from, index, words, named, high),
+        Declaration::Structure { first, count } => {
+            let run = Run::Elements;
+            above_run(file, source, from, index, words, run, first, count, high)
+        }
         Declaration::Reference { named } => {
             above_reference(file, source, from, index, words, t, named, high)
         }
         Declaration::Enumeration { named } => above_link(from, index, words, named, high),
         Declaration::LateBound { named } => above_link(from, index, words, named, high),
-        Declaration::FunctionBlock { first, count } => above_run(
-            file,
-            source,
-            from,
-            index,
-            words,
-            Run::Variables,
-            first,
-            count,
-            high,
-        ),
+        Declaration::FunctionBlock { first, count } => {
+            let run = Run::Variables;
+            above_run(file, source, from, index, words, run, first, count, high)
+        }
         Declaration::Unknown => high,
     }
 }
@@ -268,17 +250,8 @@ fn above_block(
 {
     let first = word(file, source, TYPES, t, 9);
     let many = word(file, source, TYPES, t, 10);
-    above_run(
-        file,
-        source,
-        from,
-        index,
-        words,
-        Run::BlockFields,
-        first,
-        many,
-        high,
-    )
+    let run = Run::BlockFields;
+    above_run(file, source, from, index, words, run, first, many, high)
 }
 
 // What the record itself names.

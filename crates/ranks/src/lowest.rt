@@ -1,18 +1,18 @@
 // The lowest ranks that rise along every use, or that there are none because uses run in a circle (refusal 9).
-// A type is ranked after all that it uses, so each type is looked at once, and once more for each type that is ranked on its way.
+// A type is ranked after all that it uses. A look at its uses ends with its rank, or with the ranking of another type: two looks for each type at most.
 ghost use mathlib.Core.Path.{_≡_};
-ghost use Prim.Native.Nat.{_<_, _≤_};
+ghost use Prim.Native.Nat.{_+_, _<_, _≤_};
 ghost use lib.ListN.{length};
 ghost use Rattle.definition.specs.Layout as Layout;
 ghost use Rattle.definition.specs.Uses.{ranksOf};
 ghost use Rattle.laws.specs.Accepted.{Accepted};
 ghost use Rattle.records.specs.Starts.{StartsOf};
-ghost use Rattle.ranks.specs.Lowest.{inProgress, unknown, Unknowns, Reached, Upto, Tells, RanksType, RanksNext, RanksAll, Found};
+ghost use Rattle.ranks.specs.Lowest.{Found, many, inProgress, unknown, Unknowns, Reached, Upto, Tells, Done, Ends};
 use crate::above::RanksIn;
 use crate::above::raised;
 use lines::clear::clear;
 
-// The word of a type is its rank, or one of these: higher than any rank, and for an unknown type its number is added. It only falls.
+// The word of a type is UNKNOWN and its number, then IN_PROGRESS, then its rank, which is lower than both.
 const IN_PROGRESS: u32 = 1024;
 
 const UNKNOWN: u32 = 2048;
@@ -41,7 +41,8 @@ fn forget(ranks: &mut [u32])
     }
 }
 
-// The highest word of a used type decides: one that is unknown has to be ranked first. A circle where one is in progress, or where the rank would be as high as there are types.
+// The highest word of the used types decides: a type that is unknown has to be ranked first.
+// Uses run in a circle where one is in progress, or where the rank would be as high as there are types.
 fn next_of(file: &[u32], source: &[usize], ranks: &[u32], t: u32) -> Next
     requires { ⌜ StartsOf (now file) (now source) × Reached (now file) t inProgress (now ranks) ⌝ }
     ensures { λ r. ⌜ Tells (now (file .entry)) t (now (ranks .entry)) r ⌝ }
@@ -59,7 +60,7 @@ fn next_of(file: &[u32], source: &[usize], ranks: &[u32], t: u32) -> Next
 // An unknown type is ranked, behind all that it uses.
 fn rank_type(file: &[u32], source: &[usize], ranks: &mut [u32], t: u32) -> Ranked
     requires { ⌜ StartsOf (now file) (now source) × Reached (now file) t (unknown t) (now ranks) ⌝ }
-    ensures { λ r. ⌜ RanksType (now (file .entry)) t (now (ranks .entry)) r (now (ranks .exit)) ⌝ }
+    ensures { λ r. ⌜ Ends (now (file .entry)) (Done (now (file .entry)) t (now (ranks .entry)) (now (ranks .exit))) r ⌝ }
 {
     ranks[t as usize] = IN_PROGRESS;
     loop {
@@ -84,7 +85,7 @@ fn rank_type(file: &[u32], source: &[usize], ranks: &mut [u32], t: u32) -> Ranke
 // The next of all types, in rising number: it is ranked already if a type before it uses it.
 fn rank_next(file: &[u32], source: &[usize], ranks: &mut [u32], t: u32) -> Ranked
     requires { ⌜ StartsOf (now file) (now source) × Upto (now file) t (now ranks) × (t < length (now ranks)) ⌝ }
-    ensures { λ r. ⌜ RanksNext (now (file .entry)) t r (now (ranks .exit)) ⌝ }
+    ensures { λ r. ⌜ Ends (now (file .entry)) (Upto (now (file .entry)) (t + 1) (now (ranks .exit))) r ⌝ }
 {
     if ranks[t as usize] < UNKNOWN {
         return Ranked::Ranks;
@@ -94,7 +95,7 @@ fn rank_next(file: &[u32], source: &[usize], ranks: &mut [u32], t: u32) -> Ranke
 
 fn rank_all(file: &[u32], source: &[usize], ranks: &mut [u32]) -> Ranked
     requires { ⌜ StartsOf (now file) (now source) × Upto (now file) 0 (now ranks) ⌝ }
-    ensures { λ r. ⌜ RanksAll (now (file .entry)) r (now (ranks .exit)) ⌝ }
+    ensures { λ r. ⌜ Ends (now (file .entry)) (Upto (now (file .entry)) (many (now (file .entry))) (now (ranks .exit))) r ⌝ }
 {
     let many = ranks.len() as u32;
     for t in 0..many {

@@ -1,6 +1,4 @@
 -- `lowest::rank_type` meets its contract. Assumes nothing.
-use mathlib.Core.Path.{_≡_}
-use lib.ListN.{length}
 use Rattle.records.specs.Starts.{StartsOf}
 use Rattle.ranks.specs.Lowest.{total}
 use Rattle.ranks.proofs.Ranking.{Goes}

@@ -1,5 +1,5 @@
 -- `lowest::lowest_ranks` meets its contract. Assumes nothing.
-use Rattle.ranks.proofs.Searching.{finding}
+use Rattle.ranks.proofs.Searching.{answering}
 use Rattle.ranks.proofs.lowest.lowest_ranks.Statement.{statement}
 use Rattle.ranks.proofs.lowest.lowest_ranks.Tie as tie
 
@@ -7,12 +7,12 @@ pub lowest-ranks-spec : {M : Type 1} → statement M
 lowest-ranks-spec =
     tie.close
     (tie.spec
-    (λ c κs. search finding)
-    (λ c κs. search finding)
-    (λ c. search finding)
-    (λ c. search finding)
-    (λ c κs. search finding)
-    (λ c. search finding)
-    (λ c. search finding)
-    (λ c. search finding)
-    (λ c. search finding))
+    (λ c κs. search answering)
+    (λ c κs. search answering)
+    (λ c. search answering)
+    (λ c. search answering)
+    (λ c κs. search answering)
+    (λ c. search answering)
+    (λ c. search answering)
+    (λ c. search answering)
+    (λ c. search answering))
