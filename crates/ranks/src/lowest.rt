@@ -30,6 +30,7 @@ pub enum Next {
     Circle,
 }
 
+// No type is known.
 fn forget(ranks: &mut [u32])
     requires { ⌜ length (now ranks) ≤ inProgress ⌝ }
     ensures { λ _. ⌜ Unknowns (length (now (ranks .entry))) (now (ranks .exit)) ⌝ }
@@ -47,6 +48,7 @@ fn next_of(file: &[u32], source: &[usize], ranks: &[u32], t: u32) -> Next
     requires { ⌜ StartsOf (now file) (now source) × Reached (now file) t inProgress (now ranks) ⌝ }
     ensures { λ r. ⌜ Tells (now (file .entry)) t (now (ranks .entry)) r ⌝ }
 {
+    // Words have no index: the file stands in its place, unread.
     let high = raised(file, source, RanksIn::Words, file, ranks, t);
     if high < ranks.len() {
         return Next::Rank(high as u32);
@@ -82,7 +84,7 @@ fn rank_type(file: &[u32], source: &[usize], ranks: &mut [u32], t: u32) -> Ranke
     }
 }
 
-// The next of all types, in rising number: it is ranked already if a type before it uses it.
+// The next type, which is ranked already if a type before it led to it.
 fn rank_next(file: &[u32], source: &[usize], ranks: &mut [u32], t: u32) -> Ranked
     requires { ⌜ StartsOf (now file) (now source) × Upto (now file) t (now ranks) × (t < length (now ranks)) ⌝ }
     ensures { λ r. ⌜ Ends (now (file .entry)) (Upto (now (file .entry)) (t + 1) (now (ranks .exit))) r ⌝ }
@@ -93,6 +95,7 @@ fn rank_next(file: &[u32], source: &[usize], ranks: &mut [u32], t: u32) -> Ranke
     rank_type(file, source, ranks, t)
 }
 
+// All types, in rising number.
 fn rank_all(file: &[u32], source: &[usize], ranks: &mut [u32]) -> Ranked
     requires { ⌜ StartsOf (now file) (now source) × Upto (now file) 0 (now ranks) ⌝ }
     ensures { λ r. ⌜ Ends (now (file .entry)) (Upto (now (file .entry)) (many (now (file .entry))) (now (ranks .exit))) r ⌝ }
