@@ -17,6 +17,16 @@ fn written(name: &str, bytes: &[u8]) -> String {
     path.to_str().expect("a path in UTF-8").to_string()
 }
 
+/// The carousel at night: another scene, a lower lamp, and 4 in place of 40000.
+fn night(name: &str) -> String {
+    let mut text = fs::read_to_string(example("carousel.txt")).expect("it is there");
+    for (day, night) in [("\n1 14 3 0 ", "\n1 14 1 0 "), ("\n1 0 70 0 0 ", "\n1 0 7 0 0 "), ("\n1 0 40000 0 0 ", "\n1 0 4 0 0 ")] {
+        assert_eq!(text.matches(day).count(), 1);
+        text = text.replace(day, night);
+    }
+    written(name, text.as_bytes())
+}
+
 fn run(arguments: &[&str]) -> Output {
     Command::new(env!("CARGO_BIN_EXE_start-values")).args(arguments).output().expect("it starts")
 }
@@ -56,7 +66,7 @@ fn sheet_and_check_when_its_own_then_passes() {
 #[test]
 fn check_when_another_files_sheet_then_refused() {
     let sheet = written("night.sheet", b"");
-    assert_eq!(said(&["sheet", "--text", &example("carousel_night.txt"), "-o", &sheet]).0, 0);
+    assert_eq!(said(&["sheet", "--text", &night("checked.txt"), "-o", &sheet]).0, 0);
     let (status, out, error) = said(&["check", "--text", &example("carousel.txt"), &sheet]);
     assert_eq!((status, out.as_str()), (1, ""));
     assert_eq!(error, "refused 13: a line is not what the file gives\n");
@@ -67,7 +77,7 @@ fn check_when_another_files_sheet_then_refused() {
 #[test]
 fn diff_when_the_scene_differs_then_side_by_side() {
     let names = example("carousel.names");
-    let (status, out, error) = said(&["diff", "--text", &example("carousel.txt"), &example("carousel_night.txt"), "--names", &names]);
+    let (status, out, error) = said(&["diff", "--text", &example("carousel.txt"), &night("differs.txt"), "--names", &names]);
     assert_eq!((status, error.as_str()), (1, ""));
     let lines = [
         "path\tfirst kind\tfirst value\tsecond kind\tsecond value",
