@@ -1,0 +1,4 @@
+pub mod Putting
+pub mod Lining
+pub mod Parts
+pub mod Sections

@@ -1,0 +1,21 @@
+-- `line::built_line` meets its contract. Assumes nothing.
+use borrow.Author.Needs.{needs}
+use Rattle.sheet_parts.proofs.Lining.{lining}
+use Rattle.sheet_parts.proofs.line.built_line.Statement.{statement}
+use Rattle.sheet_parts.proofs.line.built_line.Tie as tie
+
+pub built-line-spec : {M : Type 1} → statement M
+built-line-spec =
+    tie.close
+    (tie.spec
+    (λ c. search needs)
+    (λ c. search needs)
+    (λ c κs. search needs)
+    (λ c. search needs)
+    (λ c κs. search needs)
+    (λ c. search needs)
+    (λ c κs. search needs)
+    (λ c. search lining)
+    (λ c. search lining)
+    (λ c. search lining)
+    (λ c. search lining))

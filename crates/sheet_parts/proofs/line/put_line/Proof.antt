@@ -1,0 +1,14 @@
+-- `line::put_line` meets its contract. Assumes nothing.
+use borrow.Author.Needs.{needs}
+use Rattle.sheet_parts.proofs.Lining.{lining}
+use Rattle.sheet_parts.proofs.line.put_line.Statement.{statement}
+use Rattle.sheet_parts.proofs.line.put_line.Tie as tie
+
+pub put-line-spec : {M : Type 1} → statement M
+put-line-spec =
+    tie.close
+    (tie.spec
+    (λ c κs. search needs)
+    (λ c κs. search needs)
+    (λ c. search needs)
+    (λ c. search lining))

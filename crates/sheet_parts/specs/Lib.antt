@@ -1,0 +1,4 @@
+pub mod Puts
+pub mod Line
+pub mod Resolved
+pub mod Section
