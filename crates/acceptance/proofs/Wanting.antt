@@ -6,7 +6,7 @@ use Prim.Native.Nat.{ℕ, _*_}
 use native.Mathlib.Omega.{arith}
 use lib.Dec.{eqb}
 use borrow.Author.Needs.{needs}
-use borrow.Author.Tests.{eqb-true}
+use borrow.Author.Tests.{eqb-true, eq-eqb}
 use Rattle.definition.specs.declared.answers.Acceptance.{Acceptance}
 use Rattle.definition.specs.declared.answers.Acceptance.the-variants as acceptance
 use Rattle.definition.specs.declared.answers.WorkWords.the-variants as workWords
@@ -14,7 +14,7 @@ use Rattle.definition.specs.Base.{choose}
 use Rattle.definition.specs.Layout.{count, types}
 use Rattle.definition.specs.Accept.{verdict}
 use Rattle.definition.specs.Depth.{levels}
-use Rattle.definition.specs.Answers.{Says, refuses, says, acceptanceSays, acceptAnswer, lineWords, roomWords, wordsSay, wordsAnswer}
+use Rattle.definition.specs.Answers.{refuses, says, acceptanceSays, acceptAnswer, afterFile, lineWords, roomWords, wordsSay, wordsAnswer}
 use Rattle.laws.specs.Accepted.{Accepted, accepted}
 
 -- ---- the products
@@ -29,13 +29,29 @@ module _ (f : List ℕ) where
 
 -- ---- the answers
 module _ (f : List ℕ) {r : Acceptance} (e : acceptanceSays r ≡ acceptAnswer f) where
-  pub accepted-so : r ≡ acceptance.Accepted → Accepted f
+  pub verdict-none : r ≡ acceptance.Accepted → verdict f ≡ 0
   unfolding acceptanceSays acceptAnswer
-  accepted-so q = accepted f (go (eqb (verdict f) 0) refl (ap acceptanceSays (sym q) ∙ e))
+  verdict-none q = go (eqb (verdict f) 0) refl (ap acceptanceSays (sym q) ∙ e)
     where
       go : (b : Bool) → eqb (verdict f) 0 ≡ b → says 0 [] ≡ choose b (λ u. says 0 []) (λ u. refuses (verdict f)) → verdict f ≡ 0
       go true p h = eqb-true (verdict f) 0 p
       go false p h = let z : _≡_ {A = ℕ} 0 1 = cc in absurd (omega arith)
+
+  pub accepted-so : r ≡ acceptance.Accepted → Accepted f
+  accepted-so q = accepted f (verdict-none q)
+
+  -- what a function refuses after the file's own refusals
+  module _ (next : Unit {0} → ℕ) where
+    pub file-passes : r ≡ acceptance.Accepted → afterFile f next ≡ next tt
+    file-passes q = rw (eq-eqb (verdict f) 0 (verdict-none q))
+
+    pub file-refuses : {n : ℕ} → r ≡ acceptance.Refused n → n ≡ afterFile f next
+    unfolding acceptanceSays acceptAnswer
+    file-refuses {n} q = go (eqb (verdict f) 0) (ap acceptanceSays (sym q) ∙ e)
+      where
+        go : (b : Bool) → refuses n ≡ choose b (λ u. says 0 []) (λ u. refuses (verdict f)) → n ≡ choose b next (λ u. verdict f)
+        go true h = let z : _≡_ {A = ℕ} 0 1 = cc in absurd (omega arith)
+        go false h = cc
 
   pub words-are : r ≡ acceptance.Accepted → {w n : ℕ} → w ≡ n → wordsSay (workWords.Words w) ≡ wordsAnswer f n
   unfolding acceptanceSays acceptAnswer wordsSay wordsAnswer

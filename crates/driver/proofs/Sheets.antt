@@ -1,16 +1,16 @@
 -- What the sheet writer gets of every type, in an accepted file with ranks that rise along every use: each type's line, each variable's outcome with nothing left to
--- resolve, and `Full` only where the sheet is longer than the store. Assumes nothing.
+-- resolve, and `Full` only where the sheet is longer than out. Assumes nothing.
 use mathlib.Core.Path.{_≡_, refl, ap, sym, subst, _∙_}
 use mathlib.Core.Bool.{true}
 use mathlib.Core.List.{List, [], _∷_}
-use Prim.Native.Nat.{ℕ, zero, suc, _+_, _<_, min}
+use Prim.Native.Nat.{ℕ, zero, suc, _+_, _*_, _≤_, _<_, min}
 use native.Mathlib.Omega.{arith}
 use native.Mathlib.Decide.{ℕ-discrete, decLt}
 use native.Mathlib.Nat.{add-zero, zero-add}
 use lib.ListN.{length, length-append}
 use Rattle.definition.specs.Layout.{count, types, variables}
 use Rattle.definition.specs.Accept.{verdict}
-use Rattle.definition.specs.Tree.{flatten}
+use Rattle.definition.specs.Tree.{flatten, treeWords}
 use Rattle.definition.specs.Ask.{Outcome, typeDefault}
 use Rattle.definition.specs.Defaults.{body, declaration}
 use Rattle.definition.specs.Resolve.{Look, known, unknown, Memo, at, resolve, typeOutcome, variableOutcome}
@@ -18,6 +18,8 @@ use Rattle.definition.specs.Peek.{got, look, peek}
 use Rattle.definition.specs.Lines.{outcomeWords, typeLine}
 use Rattle.definition.specs.Uses.{uses, rising}
 use Rattle.definition.specs.Sheet.{linesFrom, sheetWith}
+use Rattle.definition.specs.Answers.{lineWords}
+use Rattle.laws.specs.Accepted.{accepted, few-types}
 use Rattle.laws.specs.Asks.{OnOk}
 use Rattle.laws.specs.Values.{Small}
 use Rattle.laws.specs.Resolving.{grown, resolve-there}
@@ -36,6 +38,7 @@ use Rattle.driver.specs.Driver.{lookWords, width, Holding, ran, resolved
 use Rattle.driver.specs.Asked.{asked}
 use Rattle.driver.specs.Told.{Tells}
 use Rattle.driver.specs.Every.{everyMemo, ResolvesAll}
+use Rattle.driver.proofs.Widths.{line-most}
 use Rattle.driver.proofs.Holdings.{to-memory}
 use Rattle.driver.proofs.Asking.{asked-known, asked-unknown, asked-run}
 use Rattle.driver.proofs.Types.{every-next}
@@ -75,6 +78,11 @@ width-lines rank S (l ∷ M) i h =
     let r = width-lines rank S M (suc i) (λ t k. h (suc t) (omega arith) ∙ ap (λ (n : ℕ). known (S n)) (omega arith)) in
     rw e (simp length-append (omega (arith, r)))
 
+lines-most : (rank : ℕ → ℕ) (S : ℕ → Outcome) → ((t : ℕ) → OnOk Small (S t)) → (i k : ℕ) → length (linesFrom (λ t. rank t ∷ outcomeWords (S t)) i k) ≤ k * (3 + treeWords)
+unfolding linesFrom lookWords
+lines-most rank S h i zero = omega arith
+lines-most rank S h i (suc k) = simp length-append (omega (arith, line-most (S i) (h i), lines-most rank S h (suc i) k))
+
 -- ---- where uses rise
 module _ (f : List ℕ) (e : verdict f ≡ 0) (rank : ℕ → ℕ) (up : rising (count f types) (uses f) rank ≡ true) where
   every-clean : (k : ℕ) → Clean (count f types) (λ d. d < count f types) (typeOutcome f) (everyMemo f k)
@@ -102,12 +110,13 @@ module _ (f : List ℕ) (e : verdict f ≡ 0) (rank : ℕ → ℕ) (up : rising 
       ∙ ap (λ (k : ℕ). length (linesFrom (λ t. rank t ∷ outcomeWords (typeOutcome f t)) 0 k)) n
 
   module _ {r : Stored} {index store : List ℕ} (d : ResolvesAll f r index store) where
-    -- a store that is full is shorter than the sheet
-    pub sheet-longer : r ≡ Full → min (length store) mostWords < length (sheetWith f rank)
-    unfolding sheetWith
-    sheet-longer i =
+    -- a store that is full, of the words that the sheet writer asks for, is shorter than the sheet, and so is out
+    pub sheet-longer : r ≡ Full → (out : ℕ) → min out (lineWords f) ≤ length store → out < length (sheetWith f rank)
+    unfolding sheetWith lineWords typeLine
+    sheet-longer i out h =
         let g : min (length store) mostWords < width (everyMemo f (count f types)) = subst (λ (a : Stored). After f a index store (everyMemo f (count f types))) i (d .after) in
-        simp length-append (omega (arith, every-lines))
+        let m = lines-most rank (typeOutcome f) (λ t. type-small f t) 0 (count f types) in
+        simp length-append (omega (arith, every-lines, few-types f (accepted f e)))
 
     pub every-holding : {end : ℕ} → r ≡ Ends end → Holding f index store end (everyMemo f (count f types))
     every-holding i = subst (λ (a : Stored). After f a index store (everyMemo f (count f types))) i (d .after)

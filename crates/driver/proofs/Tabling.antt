@@ -8,11 +8,27 @@ use lib.ListN.{length, getD, take, drop, length-drop, drop-of-length-le}
 use lib.Seq.{getD-take, getD-drop, length-take-le, take-all, drop-at}
 use borrow.Author.Needs.{needs}
 use borrow.Rule.Slice.PartMut.{putMid, same-len-mid, take-put, mid-len}
-use Rattle.laws.specs.Accepted.{Accepted}
+use Rattle.definition.specs.Answers.{roomWords}
+use Rattle.laws.specs.Accepted.{Accepted, few-types}
 use Rattle.laws.specs.Depths.{few-shapes}
-use Rattle.shapes.specs.Classes.{Classes}
+use Rattle.records.specs.Starts.{StartsOf, DeclaredIn}
+use Rattle.shapes.specs.Classes.{classesOf, Classes, classes-at}
 use Rattle.build.specs.Built.{indexAt, indexIn}
 use Rattle.driver.specs.Tables.{Front, Marks}
+use Rattle.driver.specs.Driver.{Given}
+
+-- what a caller hands on that has the shape classes in so many words as `KNOWN_WORDS` says
+pub tables-given : {f : List ℕ} {room : ℕ} → Accepted f → roomWords f ≤ room → {source : List ℕ} → StartsOf f source → DeclaredIn f source
+    → (words : List ℕ) {known : List ℕ} → known ≡ classesOf f ++ words → length known ≡ 2048 → Given f source known room
+tables-given {f} a r s d words c l =
+    record {
+      starts = s;
+      declared = d;
+      accepted = a;
+      classed = rw c (classes-at f words);
+      tables = omega (arith, few-types f a);
+      roomy = r;
+    }
 
 pub index-long : (known : List ℕ) → length (indexIn known) ≡ length known - indexAt
 index-long known = mid-len indexAt (length known) known (omega arith)

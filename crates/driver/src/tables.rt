@@ -10,6 +10,9 @@ use build::built::INDEX_AT;
 use lines::append::begin;
 use lines::clear::clear;
 
+// The classes of at most 1,024 shapes, and a word of the index for each of at most 1,024 types.
+pub const KNOWN_WORDS: usize = 2048;
+
 pub fn is_unknown(known: &[u32], t: u32) -> bool
     requires { ⌜ indexAt + t < length (now known) ⌝ }
     ensures { λ r. ⌜ r ≡ eqb (getD (indexIn (now (known .entry))) t 0) 0 ⌝ }

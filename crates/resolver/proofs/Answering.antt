@@ -1,7 +1,7 @@
 -- A law for each call and each return of trees.rt. Assumes nothing.
 use mathlib.Core.Path.{_≡_, refl, ap, sym, subst, _∙_}
 use mathlib.Core.Bool.{Bool, true, false, _&&_}
-use mathlib.Core.List.{List, [], _++_}
+use mathlib.Core.List.{List, _++_}
 use Prim.Native.Nat.{ℕ, _+_, _*_, _/_, _≤_, _<_}
 use native.Mathlib.Omega.{arith}
 use lib.Dec.{eqb, leb, ltb}
@@ -18,12 +18,13 @@ use Rattle.definition.specs.Layout.{count}
 use Rattle.definition.specs.Accept.{need, verdict}
 use Rattle.definition.specs.Tree.{Tree, nodes, flatten}
 use Rattle.definition.specs.Ask.{ok, none, large, Outcome}
-use Rattle.definition.specs.Answers.{refuses, says, acceptanceSays, acceptAnswer, lineWords, roomWords, cleared, enough, refusedTree, over, answered, treeSays, treeAnswer, treeOut}
+use Rattle.definition.specs.Answers.{refuses, acceptanceSays, acceptAnswer, lineWords, roomWords, cleared, enough, refusedTree, over, answered, treeSays, treeAnswer, treeOut}
 use Rattle.laws.specs.Cases.{both}
-use Rattle.laws.specs.Accepted.{Accepted, accepted, few-types}
+use Rattle.laws.specs.Accepted.{accepted}
 use Rattle.laws.specs.Whole.{flatten-length}
 use Rattle.records.specs.Starts.{StartsOf, DeclaredIn}
-use Rattle.shapes.specs.Classes.{classesOf, classes-at}
+use Rattle.shapes.specs.Classes.{classesOf}
+use Rattle.acceptance.proofs.Wanting.{accepted-so, file-passes, file-refuses}
 use Rattle.tree.specs.declared.extent.Extent.{Extent}
 use Rattle.tree.specs.declared.extent.Extent.the-variants as extent
 use Rattle.tree.specs.Words.{Stand, WroteCopy}
@@ -34,6 +35,7 @@ use Rattle.build.specs.declared.built.Built.the-variants as built
 use Rattle.build.proofs.built.Built.{the-type}
 use Rattle.driver.specs.Driver.{Given}
 use Rattle.driver.specs.Told.{Ample, Tells}
+use Rattle.driver.proofs.Tabling.{tables-given}
 use Rattle.resolver.specs.Trees.{Writes, Answers, Passed}
 
 -- ---- `is_enough`
@@ -47,47 +49,30 @@ module _ (f : List ℕ) (lines room : ℕ) {n : ℕ} (q : n ≡ lineWords f) whe
   enough-so h e = let k : lineWords f ≤ lines = omega arith in rw (le-leb (lineWords f) lines k, e)
 
 -- ---- `refusal`
-module _ (f : List ℕ) {r : Acceptance} (e : acceptanceSays r ≡ acceptAnswer f) where
-  verdict-none : r ≡ acceptance.Accepted → verdict f ≡ 0
-  unfolding acceptanceSays acceptAnswer
-  verdict-none q = go (eqb (verdict f) 0) refl (ap acceptanceSays (sym q) ∙ e)
-    where
-      go : (b : Bool) → eqb (verdict f) 0 ≡ b → says 0 [] ≡ choose b (λ u. says 0 []) (λ u. refuses (verdict f)) → verdict f ≡ 0
-      go true p h = eqb-true (verdict f) 0 p
-      go false p h = let z : _≡_ {A = ℕ} 0 1 = cc in absurd (omega arith)
+module _ (f : List ℕ) {r : Acceptance} (e : acceptanceSays r ≡ acceptAnswer f) (section number lines room : ℕ) where
+  pub refused-file : {n : ℕ} → r ≡ acceptance.Refused n → n ≡ refusedTree f (ltb number (count f section)) lines room
+  unfolding refusedTree
+  refused-file q = file-refuses f e (λ u. need (ltb number (count f section)) 7 λ v. need (enough f lines room) 10 λ w. 0) q
 
-  pub accepted-then : r ≡ acceptance.Accepted → Accepted f
-  accepted-then q = accepted f (verdict-none q)
+  module _ (q : r ≡ acceptance.Accepted) {m : ℕ} (c : m ≡ count f section) where
+    passes-verdict : refusedTree f (ltb number (count f section)) lines room ≡ need (ltb number (count f section)) 7 (λ v. need (enough f lines room) 10 λ w. 0)
+    unfolding refusedTree
+    passes-verdict = file-passes f e (λ u. need (ltb number (count f section)) 7 λ v. need (enough f lines room) 10 λ w. 0) q
 
-  module _ (section number lines room : ℕ) where
-    pub refused-file : {n : ℕ} → r ≡ acceptance.Refused n → n ≡ refusedTree f (ltb number (count f section)) lines room
-    unfolding acceptanceSays acceptAnswer refusedTree
-    refused-file {n} q = go (eqb (verdict f) 0) (ap acceptanceSays (sym q) ∙ e)
-      where
-        go : (b : Bool) → refuses n ≡ choose b (λ u. says 0 []) (λ u. refuses (verdict f))
-            → n ≡ choose b (λ u. need (ltb number (count f section)) 7 λ v. need (enough f lines room) 10 λ w. 0) (λ u. verdict f)
-        go true h = let z : _≡_ {A = ℕ} 0 1 = cc in absurd (omega arith)
-        go false h = cc
+    pub refused-number : m ≤ number → 7 ≡ refusedTree f (ltb number (count f section)) lines room
+    refused-number h = let k : count f section ≤ number = omega arith in sym (passes-verdict ∙ ap (λ (b : Bool). need b 7 (λ v. need (enough f lines room) 10 λ w. 0)) (le-ltb number (count f section) k))
 
-    module _ (q : r ≡ acceptance.Accepted) {m : ℕ} (c : m ≡ count f section) where
-      passes-verdict : refusedTree f (ltb number (count f section)) lines room ≡ need (ltb number (count f section)) 7 (λ v. need (enough f lines room) 10 λ w. 0)
-      unfolding refusedTree
-      passes-verdict = rw (eq-eqb (verdict f) 0 (verdict-none q))
+    module _ (h : number < m) {b : Bool} (s : b ≡ enough f lines room) where
+      passes-number : refusedTree f (ltb number (count f section)) lines room ≡ need b 10 (λ w. 0)
+      passes-number =
+          let k : number < count f section = omega arith in
+          passes-verdict ∙ ap (λ (b : Bool). need b 7 (λ v. need (enough f lines room) 10 λ w. 0)) (lt-ltb number (count f section) k) ∙ ap (λ (b : Bool). need b 10 (λ w. 0)) (sym s)
 
-      pub refused-number : m ≤ number → 7 ≡ refusedTree f (ltb number (count f section)) lines room
-      refused-number h = let k : count f section ≤ number = omega arith in sym (passes-verdict ∙ ap (λ (b : Bool). need b 7 (λ v. need (enough f lines room) 10 λ w. 0)) (le-ltb number (count f section) k))
+      pub refused-none : b ≡ true → 0 ≡ refusedTree f (ltb number (count f section)) lines room
+      refused-none p = sym (passes-number ∙ ap (λ (b : Bool). need b 10 (λ w. 0)) p)
 
-      module _ (h : number < m) {b : Bool} (s : b ≡ enough f lines room) where
-        passes-number : refusedTree f (ltb number (count f section)) lines room ≡ need b 10 (λ w. 0)
-        passes-number =
-            let k : number < count f section = omega arith in
-            passes-verdict ∙ ap (λ (b : Bool). need b 7 (λ v. need (enough f lines room) 10 λ w. 0)) (lt-ltb number (count f section) k) ∙ ap (λ (b : Bool). need b 10 (λ w. 0)) (sym s)
-
-        pub refused-none : b ≡ true → 0 ≡ refusedTree f (ltb number (count f section)) lines room
-        refused-none p = sym (passes-number ∙ ap (λ (b : Bool). need b 10 (λ w. 0)) p)
-
-        pub refused-words : b ≡ false → 10 ≡ refusedTree f (ltb number (count f section)) lines room
-        refused-words p = sym (passes-number ∙ ap (λ (b : Bool). need b 10 (λ w. 0)) p)
+      pub refused-words : b ≡ false → 10 ≡ refusedTree f (ltb number (count f section)) lines room
+      refused-words p = sym (passes-number ∙ ap (λ (b : Bool). need b 10 (λ w. 0)) p)
 
 -- what holds where nothing is refused
 module _ (f : List ℕ) (lines room : ℕ) (s : enough f lines room ≡ true) where
@@ -218,7 +203,7 @@ writes-wanted (built.Wanted d) q = record { says = λ o h. tells-wanted o h; is 
 
 pub ruleset writing = (needs, writes-none, writes-large, writes-full, writes-tree, writes-wanted)
 
-pub ruleset refusing = (needs, enough-not, enough-so, accepted-then, refused-file, refused-number, refused-none, refused-words)
+pub ruleset refusing = (needs, enough-not, enough-so, accepted-so, refused-file, refused-number, refused-none, refused-words)
 
 -- ---- `type_answer` and `variable_answer`
 pub answers : {made : Built} {room old : List ℕ} {r : TreeAnswer} {new : List ℕ} (o : Outcome) → Writes made room old r new → Tells o made room → Answers o old r new
@@ -229,15 +214,7 @@ pub ruleset answering = (needs, answers)
 module _ {f : List ℕ} {section number lines room : ℕ} (p : Passed f section number lines room) where
   pub passed-given : {source : List ℕ} → StartsOf f source → DeclaredIn f source → (words : List ℕ) {known : List ℕ} → known ≡ classesOf f ++ words → length known ≡ 2048
       → Given f source known room
-  passed-given s d words c l =
-      record {
-        starts = s;
-        declared = d;
-        accepted = p .accepted;
-        classed = rw c (classes-at f words);
-        tables = omega (arith, few-types f (p .accepted));
-        roomy = p .roomy;
-      }
+  passed-given s d words c l = tables-given (p .accepted) (p .roomy) s d words c l
 
   pub passed-ample : Ample f lines
   passed-ample = record { lines = p .lined }

@@ -12,6 +12,7 @@ use definition::answers::TreeAnswer;
 use definition::layout::NODE_WORDS;
 use definition::layout::TYPES;
 use definition::layout::VARIABLES;
+use driver::tables::KNOWN_WORDS;
 use driver::told::type_outcome;
 use driver::told::variable_outcome;
 use lines::clear::clear;
@@ -19,9 +20,6 @@ use places::declared::source_of;
 use shapes::classes::shape_classes;
 use tree::extent::Extent;
 use tree::words::copy;
-
-// The classes of at most 1,024 shapes, and a word of the index for each of at most 1,024 types.
-const KNOWN_WORDS: usize = 2048;
 
 // What was built at the front of the room goes to the front of out.
 pub fn write(built: Built, room: &[u32], out: &mut [u32]) -> TreeAnswer
