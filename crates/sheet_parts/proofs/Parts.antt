@@ -1,9 +1,8 @@
 -- The lines of types, variables and completed initializers. Assumes nothing.
 use mathlib.Core.Path.{_≡_, refl, ap, sym, subst, _∙_}
-use mathlib.Core.List.{List, [], _∷_}
+use mathlib.Core.List.{List}
 use Prim.Native.Nat.{ℕ, _+_, _*_, _<_}
 use native.Mathlib.Omega.{arith}
-use lib.ListN.{length}
 use lib.Seq.{slice}
 use borrow.Author.Needs.{needs}
 use Rattle.definition.specs.Layout.{count, types, variables}
@@ -11,7 +10,7 @@ use Rattle.definition.specs.Tree.{Tree, nodes, flatten}
 use Rattle.definition.specs.Ask.{ok, none, large, Outcome}
 use Rattle.definition.specs.Defaults.{declaration}
 use Rattle.definition.specs.Resolve.{typeOutcome, variableOutcome}
-use Rattle.definition.specs.Complete.{Completed, completed, left, completion}
+use Rattle.definition.specs.Complete.{left, completion}
 use Rattle.definition.specs.Lines.{outcomeWords, completedWords, typeLine, variableLine, completedLine}
 use Rattle.laws.specs.Sizes.{variable-small}
 use Rattle.laws.specs.Whole.{flatten-length}
@@ -24,7 +23,7 @@ use Rattle.build.specs.Built.{indexIn, Builds}
 use Rattle.complete.specs.declared.answer.Completion.{Completion}
 use Rattle.complete.specs.declared.answer.Completion.the-variants as answer
 use Rattle.complete.specs.Completion.{Completing}
-use Rattle.complete.proofs.Answering.{Takes, Leaves, answer-takes, answer-leaves}
+use Rattle.complete.proofs.Answering.{Takes, answer-takes, answer-leaves}
 use Rattle.sheet_parts.specs.declared.line.Line.{Line}
 use Rattle.sheet_parts.specs.Line.{valueIn, ValueLies, LineLies, lineOf, emptyLine, rememberedLine, builtLine}
 use Rattle.sheet_parts.specs.Resolved.{Resolved, rankedLine}

@@ -18,8 +18,8 @@ use Rattle.sheet_parts.specs.declared.variables.Both.{Both}
 use Rattle.sheet_parts.specs.Puts.{Puts}
 use Rattle.sheet_parts.specs.Line.{lineIn, LineFits, ValueLies, LineLies, rememberedLine}
 use Rattle.sheet_parts.specs.Resolved.{Resolved, rankedLine}
-use Rattle.sheet_parts.specs.Section.{sectionOf, LineLong, SectionLong, SectionRoom, Writing, LinesLong, SectionsLong, PutsBoth, BothRoom, WritingBoth, SectionsRoom}
-use Rattle.sheet_parts.proofs.Putting.{puts-long, puts-then, Swapped, puts-swap}
+use Rattle.sheet_parts.specs.Section.{sectionOf, LineLong, SectionLong, TypesLong, SectionRoom, Writing, LinesLong, SectionsLong, PutsBoth, BothRoom, WritingBoth, SectionsRoom}
+use Rattle.sheet_parts.proofs.Putting.{puts-long, puts-then, puts-swap}
 use Rattle.sheet_parts.proofs.Lining.{value-few, value-long, value-fits, value-puts, line-few, line-long, line-fits, line-puts}
 use Rattle.sheet_parts.proofs.Parts.{type-lies}
 
@@ -36,7 +36,7 @@ module _ (line : ℕ → List ℕ) where
   pub lines-last : (k : ℕ) → linesFrom line 0 (k + 1) ≡ linesFrom line 0 k ++ line k
   lines-last k = ap (linesFrom line 0) (add-one k) ∙ lines-next 0 k ∙ ap (λ (n : ℕ). linesFrom line 0 k ++ line n) (zero-add k)
 
-  pub lines-none : linesFrom line 0 0 ≡ []
+  lines-none : linesFrom line 0 0 ≡ []
   unfolding linesFrom
   lines-none = refl
 
@@ -59,15 +59,15 @@ puts-none old at h = record { ends = sym (add-zero at); fits = h; is = sym (ap (
 
 -- ---- a section that is counted
 module _ (line : ℕ → List ℕ) where
-  pub section-starts : SectionLong line 0 1
+  section-starts : SectionLong line 0 1
   unfolding sectionOf
   section-starts = record { is = omega (arith, ap length (lines-none line)); most = omega arith }
 
-  pub section-next : {i n w : ℕ} → SectionLong line i n → LineLong line i w → SectionLong line (i + 1) (n + w)
+  section-next : {i n w : ℕ} → SectionLong line i n → LineLong line i w → SectionLong line (i + 1) (n + w)
   unfolding sectionOf
   section-next {i} x l = record { is = omega (arith, x .is, l .is, lines-long line i); most = omega (arith, x .most, l .most) }
 
-  pub section-counted : {i n many m : ℕ} → SectionLong line i n → m ≡ many → i ≤ m → m ≤ i → SectionLong line many n
+  section-counted : {i n many m : ℕ} → SectionLong line i n → m ≡ many → i ≤ m → m ≤ i → SectionLong line many n
   section-counted {i} {n} {many} x e g h = let k : i ≡ many = omega arith in subst (λ (j : ℕ). SectionLong line j n) k x
 
 -- ---- a section that is written
@@ -85,10 +85,10 @@ module _ (line : ℕ → List ℕ) {many : ℕ} where
       }
 
   module _ {old : List ℕ} {at i end : ℕ} {out : List ℕ} (x : Writing line many old at i end out) where
-    pub writing-room : i < many → end + length (line i) ≤ length out
+    writing-room : i < many → end + length (line i) ≤ length out
     writing-room h = omega (arith, lines-within line i many h, x .room, x .puts .ends, puts-long (x .puts))
 
-    pub writing-next : {e : ℕ} {new : List ℕ} → Puts (line i) out end e new → Writing line many old at (i + 1) e new
+    writing-next : {e : ℕ} {new : List ℕ} → Puts (line i) out end e new → Writing line many old at (i + 1) e new
     writing-next q = record { puts = rw (lines-last line i) (puts-then (x .puts) q); room = x .room }
 
     pub writing-done : {m : ℕ} → m ≡ many → i ≤ m → m ≤ i → {first : List ℕ} {a : ℕ} → Puts (m ∷ []) first a at old → Puts (sectionOf line many) first a end out
@@ -99,6 +99,12 @@ module _ (line : ℕ → List ℕ) {many : ℕ} where
         subst (λ (n : ℕ). Puts (n ∷ linesFrom line 0 many) first a end out) e (subst (λ (n : ℕ). Puts (m ∷ linesFrom line 0 n) first a end out) k p)
 
 -- ---- types
+pub types-none : (f : List ℕ) → TypesLong f 0 1
+types-none f = record { long = λ rank. section-starts (rankedLine f rank); most = omega arith }
+
+pub types-all : {f : List ℕ} {t n m : ℕ} → TypesLong f t n → m ≡ count f types → t ≤ m → m ≤ t → TypesLong f (count f types) n
+types-all {f} x e g h = record { long = λ rank. section-counted (rankedLine f rank) (x .long rank) e g h; most = omega (arith, x .most) }
+
 module _ {f source tables store : List ℕ} (k : Resolved f source tables store) where
   pub tables-there : 1024 ≤ length tables
   tables-there = k .ready .tables
@@ -107,10 +113,13 @@ module _ {f source tables store : List ℕ} (k : Resolved f source tables store)
     pub type-few : {line : Line} → line ≡ rememberedLine 0 (rememberedOf (indexIn tables) store t) → line .nodes ≤ 2048
     type-few e = line-few (type-lies k (λ t. 0) t (omega arith) e)
 
-    pub type-long : {line : Line} → line ≡ rememberedLine 0 (rememberedOf (indexIn tables) store t) → {w : ℕ} → w ≡ 3 + line .nodes * 6 → LineLong (rankedLine f (λ t. 0)) t w
-    type-long e i =
+    pub type-counted : {n : ℕ} → TypesLong f t n → {line : Line} → line ≡ rememberedLine 0 (rememberedOf (indexIn tables) store t) → {w : ℕ} → w ≡ 3 + line .nodes * 6 → TypesLong f (t + 1) (n + w)
+    type-counted x e i =
         let y = type-lies k (λ t. 0) t (omega arith) e in
-        record { is = omega (arith, line-long y); most = omega (arith, line-few y) }
+        record {
+          long = λ rank. section-next (rankedLine f rank) (x .long rank) (record { is = omega (arith, line-long y); most = omega (arith, line-few y) });
+          most = omega (arith, x .most, line-few y);
+        }
 
     module _ (ranks : List ℕ) {line : Line} (e : line ≡ rememberedLine (getD ranks t 0) (rememberedOf (indexIn tables) store t)) where
       lies : LineLies (rankedLine f (rankAt ranks) t) line store
@@ -144,13 +153,6 @@ module _ {vs ws : List ℕ} {at : Both} where
 
   pub slot-room : {old : List ℕ} → BothRoom vs ws at (length old) → {us : List ℕ} {a r : ℕ} {mid : List ℕ} → Puts us old a r mid → at .completed + length ws ≤ length mid
   slot-room x p = omega (arith, x .room, puts-long p)
-
-module _ {m : ℕ} {at : Both} where
-  pub value-begins : {out : ℕ} → BothRoom (m ∷ []) (m ∷ []) at out → at .value < out
-  value-begins x = omega (arith, x .apart, x .room)
-
-  pub completed-begins : {old : List ℕ} → BothRoom (m ∷ []) (m ∷ []) at (length old) → {a r : ℕ} {mid : List ℕ} → Puts (m ∷ []) old a r mid → at .completed < length mid
-  completed-begins x p = omega (arith, x .room, puts-long p)
 
 -- one behind the other, at both places
 both-then : {vs ws old mid : List ℕ} {at r : Both} → PutsBoth vs ws old at r mid → {us xs new : List ℕ} {e : Both} → PutsBoth us xs mid r e new → e .value ≤ at .completed
@@ -222,10 +224,10 @@ module _ {f : List ℕ} {v : ℕ} {words : Both} where
 pub both-none : (f : List ℕ) → SectionsLong f 0 (record { value = 1; completed = 1 })
 both-none f = record { value = section-starts (variableLine f); completed = section-starts (completedLine f) }
 
-pub ruleset counting = (needs, tables-there, type-few, type-long, section-starts, section-next, section-counted, value-few, line-few, lines-counted, both-none, both-counted, both-all)
+pub ruleset counting = (needs, tables-there, types-none, type-few, type-counted, types-all, value-few, line-few, lines-counted, both-none, both-counted, both-all)
 
 pub ruleset writing = (needs, tables-there, section-begins, writing-starts, type-fits, writing-done)
 
-pub ruleset putting = (needs, line-fits, line-puts, value-room, value-puts, slot-room, value-begins, completed-begins, both-put)
+pub ruleset putting = (needs, line-fits, line-puts, value-room, value-puts, slot-room, both-put)
 
 pub ruleset both = (needs, counts-room, both-starts, both-room, both-next, both-done)

@@ -8,6 +8,7 @@ use Rattle.definition.specs.Lines.{variableLine, completedLine}
 use Rattle.definition.specs.Sheet.{linesFrom}
 use Rattle.sheet_parts.specs.declared.variables.Both.{Both}
 use Rattle.sheet_parts.specs.Puts.{Puts}
+use Rattle.sheet_parts.specs.Resolved.{rankedLine}
 
 -- the count and so many lines
 unfoldable pub sectionOf : (ℕ → List ℕ) → ℕ → List ℕ
@@ -20,6 +21,11 @@ pub record LineLong (line : ℕ → List ℕ) (i r : ℕ) : Type 0 where
 
 pub record SectionLong (line : ℕ → List ℕ) (many r : ℕ) : Type 0 where
   pub is : r ≡ length (sectionOf line many)
+  pub most : r ≤ many * 12291 + 1
+
+-- of types, whatever their ranks
+pub record TypesLong (f : List ℕ) (many r : ℕ) : Type 0 where
+  pub long : (rank : ℕ → ℕ) → SectionLong (rankedLine f rank) many r
   pub most : r ≤ many * 12291 + 1
 
 -- there is room for a section at a place of so many words

@@ -6,7 +6,7 @@ ghost use Rattle.definition.specs.Layout as Layout;
 ghost use Rattle.definition.specs.Uses.{rankAt};
 ghost use Rattle.sheet_parts.specs.Puts.{Puts};
 ghost use Rattle.sheet_parts.specs.Resolved.{Resolved, rankedLine};
-ghost use Rattle.sheet_parts.specs.Section.{sectionOf, SectionLong, SectionRoom};
+ghost use Rattle.sheet_parts.specs.Section.{sectionOf, TypesLong, SectionRoom};
 use crate::line::put_line;
 use crate::line::words_of;
 use crate::part::type_line;
@@ -17,7 +17,7 @@ use records::words::count;
 // The words of the section, whatever the ranks.
 pub fn count_types(file: &[u32], source: &[usize], known: &[u32], store: &[u32]) -> usize
     requires { ⌜ Resolved (now file) (now source) (now known) (now store) ⌝ }
-    ensures { λ r. ⌜ SectionLong (rankedLine (now (file .entry)) (λ t. 0)) (Layout.count (now (file .entry)) Layout.types) r ⌝ }
+    ensures { λ r. ⌜ TypesLong (now (file .entry)) (Layout.count (now (file .entry)) Layout.types) r ⌝ }
 {
     let many = count(file, source, TYPES);
     let mut words: usize = 1;
