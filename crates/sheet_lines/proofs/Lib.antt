@@ -1,0 +1,13 @@
+pub mod Ending
+pub mod Shapes
+pub mod Finding
+pub mod Reading
+pub mod Indexing
+pub mod Placed
+pub mod Sizing
+pub mod Comparing
+pub mod Remembering
+pub mod Judging
+pub mod Lengths
+pub mod Testing
+pub mod Checking

@@ -1,0 +1,10 @@
+pub mod Ends
+pub mod There
+pub mod Found
+pub mod Read
+pub mod Index
+pub mod Small
+pub mod Compare
+pub mod Said
+pub mod Judged
+pub mod Tests
