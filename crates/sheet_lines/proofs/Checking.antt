@@ -1,11 +1,10 @@
 -- For the loops that compare lines: where a line stands, and that what was built has the words that it is compared with. Assumes nothing.
-use mathlib.Core.Path.{_≡_, ap, sym, _∙_}
-use mathlib.Core.List.{List, [], _∷_}
+use mathlib.Core.Path.{_≡_, refl, ap, sym, _∙_}
+use mathlib.Core.List.{List, _∷_}
 use Prim.Native.Nat.{ℕ, suc, _+_, _*_}
 use native.Mathlib.Omega.{arith}
 use native.Mathlib.Numerals.{add-one}
-use lib.ListN.{length}
-use lib.Seq.{slice, slice-empty}
+use lib.ListN.{length, take}
 use Rattle.definition.specs.Tree.{Tree, nodes, flatten}
 use Rattle.definition.specs.Ask.{ok, none, large}
 use Rattle.definition.specs.Complete.{completed, left}
@@ -54,27 +53,24 @@ module _ (s : List ℕ) (p e : ℕ) where
   completed-in q = let r = line-within form.Completed s p e q in record { starts = r .0; inside = r .1 }
 
 -- ---- what was built
-module _ (words : List ℕ) (from : ℕ) where
-  nothing : slice from (from + 0 * 6) words ≡ []
-  nothing = let n : from + 0 * 6 ≡ from = omega arith in rw n (slice-empty from words)
-
-  pub none-built : 1 ∷ 0 ∷ slice from (from + 0 * 6) words ≡ outcomeWords none
+module _ (words : List ℕ) where
+  pub none-built : 1 ∷ 0 ∷ take (0 * 6) words ≡ outcomeWords none
   unfolding outcomeWords
-  none-built = ap (λ (w : List ℕ). 1 ∷ 0 ∷ w) nothing
+  none-built = refl
 
-  pub large-built : 2 ∷ 0 ∷ slice from (from + 0 * 6) words ≡ outcomeWords large
+  pub large-built : 2 ∷ 0 ∷ take (0 * 6) words ≡ outcomeWords large
   unfolding outcomeWords
-  large-built = ap (λ (w : List ℕ). 2 ∷ 0 ∷ w) nothing
+  large-built = refl
 
-  pub left-built : 1 ∷ 0 ∷ 0 ∷ slice from (from + 0 * 6) words ≡ completedWords left
+  pub left-built : 1 ∷ 0 ∷ 0 ∷ take (0 * 6) words ≡ completedWords left
   unfolding completedWords
-  left-built = ap (λ (w : List ℕ). 1 ∷ 0 ∷ 0 ∷ w) nothing
+  left-built = refl
 
-  module _ (t : Tree) {n : ℕ} (k : nodes t ≡ n) (x : Stand words from (flatten t) (from + n * 6)) where
-    pub tree-built : 0 ∷ n ∷ slice from (from + n * 6) words ≡ outcomeWords (ok t)
+  module _ (t : Tree) {n : ℕ} (k : nodes t ≡ n) (x : Stand words 0 (flatten t) (n * 6)) where
+    pub tree-built : 0 ∷ n ∷ take (n * 6) words ≡ outcomeWords (ok t)
     unfolding outcomeWords
     tree-built = rw (x .is, k)
 
-    pub completed-built : (i : ℕ) → 0 ∷ i ∷ n ∷ slice from (from + n * 6) words ≡ completedWords (completed i t)
+    pub completed-built : (i : ℕ) → 0 ∷ i ∷ n ∷ take (n * 6) words ≡ completedWords (completed i t)
     unfolding completedWords
     completed-built i = rw (x .is, k)

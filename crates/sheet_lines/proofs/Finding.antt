@@ -1,23 +1,17 @@
 -- What the functions of `find` answer at each return. Assumes nothing.
-use mathlib.Core.Path.{_≡_, refl}
-use mathlib.Core.Bool.{Bool, true, false, _&&_}
+use mathlib.Core.Path.{_≡_}
 use mathlib.Core.List.{List}
-use Prim.Native.Nat.{ℕ, _+_, _≤_}
-use native.Mathlib.Omega.{arith}
-use lib.Dec.{eqb, ltb}
-use lib.ListN.{length, getD}
+use Prim.Native.Nat.{ℕ}
+use lib.ListN.{length}
 use borrow.Author.Needs.{needs}
 use borrow.Author.Tests.{eq-eqb, ne-eqb}
-use Rattle.definition.specs.Base.{pick}
 use Rattle.definition.specs.Layout.{count, types, variables}
-use Rattle.laws.specs.Cases.{never}
 use Rattle.tree.specs.declared.extent.Extent.{Extent}
 use Rattle.tree.specs.declared.extent.Extent.the-variants.{Ends, Not}
 use Rattle.sheet_lines.specs.declared.ends.Form.the-variants as form
 use Rattle.sheet_lines.specs.declared.find.Lines.{Lines}
 use Rattle.sheet_lines.specs.declared.find.Lines.the-variants.{Found, Unreadable}
-use Rattle.sheet_lines.specs.Ends.{linesEnd, sectionEnd}
-use Rattle.sheet_lines.specs.There.{isEnd, LinesThere}
+use Rattle.sheet_lines.specs.Ends.{sectionEnd}
 use Rattle.sheet_lines.specs.Found.{lastOf, variablesOf, foundOf}
 
 module _ (s : List ℕ) (m v : ℕ) where
@@ -54,28 +48,5 @@ module _ (f s : List ℕ) {n : ℕ} (k : n ≡ count f types) {x : Extent} (q : 
   pub first-not : x ≡ Not → Unreadable ≡ foundOf f s
   unfolding foundOf
   first-not i = rw (← first-is, i)
-
--- ---- where a sheet is readable, the types' lines are there
-types-there : (s : List ℕ) (n : ℕ) → isEnd (sectionEnd form.Types s n 0) ≡ true → LinesThere form.Types s n 1
-unfolding sectionEnd
-types-there s n e₀ = go (ltb 0 (length s) && eqb (getD s 0 0) n) e₀
-  where
-    go : (b : Bool) → isEnd (pick b (linesEnd form.Types s n (0 + 1)) Not) ≡ true → LinesThere form.Types s n 1
-    go true e = record { there = e }
-    go false e = never e
-
-module _ (f s : List ℕ) {r : Lines} (e : r ≡ foundOf f s) {v c : ℕ} (i : r ≡ Found v c) where
-  found-types : isEnd (sectionEnd form.Types s (count f types) 0) ≡ true
-  unfolding foundOf
-  found-types = go (sectionEnd form.Types s (count f types) 0) refl
-    where
-      go : (x : Extent) → sectionEnd form.Types s (count f types) 0 ≡ x → isEnd x ≡ true
-      go (Ends a) q = refl
-      go Not q =
-          let h : foundOf f s ≡ Unreadable = rw q in
-          let z : _≡_ {A = ℕ} 0 1 = cc in absurd (omega arith)
-
-  pub found-there : {n : ℕ} → n ≡ count f types → LinesThere form.Types s n 1
-  found-there k = rw k (types-there s (count f types) found-types)
 
 pub ruleset finds = (needs, last-so, last-more, last-not, second-so, second-not, first-so, first-not)

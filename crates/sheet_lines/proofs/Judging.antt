@@ -17,8 +17,7 @@ use Rattle.definition.specs.Ask.{ok, none, large, Outcome}
 use Rattle.definition.specs.Defaults.{body, declaration}
 use Rattle.definition.specs.Resolve.{typeOutcome}
 use Rattle.definition.specs.Peek.{look, got, peek}
-use Rattle.definition.specs.Complete.{completion}
-use Rattle.definition.specs.Lines.{outcomeWords, completedWords, typeLine, variableLine, completedLine}
+use Rattle.definition.specs.Lines.{outcomeWords, typeLine, variableLine, completedLine}
 use Rattle.definition.specs.Uses.{uses, rising}
 use Rattle.definition.specs.Sheet.{Sheet, sheetRank, ranksRise, sameWords, linesRight, checkAnswer}
 use Rattle.laws.specs.Asks.{OnOk}

@@ -36,7 +36,8 @@ use Rattle.sheet_lines.specs.Read.{sheetAt}
 use Rattle.sheet_lines.specs.Small.{smallAt}
 use Rattle.sheet_lines.specs.Said.{saidBy}
 use Rattle.sheet_lines.specs.Judged.{variableAt, completedAt, variableSame, completedSame, variablesRight, judged}
-use Rattle.sheet_lines.proofs.Placed.{FoundAt, found-at, line-inside, at-place, variables-end, completed-end}
+use Rattle.sheet_lines.proofs.Placed.{FoundAt, found-at, line-inside, variables-end, completed-end}
+use Rattle.sheet_lines.proofs.Shapes.{place-is}
 use Rattle.sheet_lines.proofs.Remembering.{said-line, said-small}
 use Rattle.sheet_lines.proofs.Judging.{check-lines}
 
@@ -71,7 +72,7 @@ module _ {f s : List ℕ} {v c : ℕ} (x : FoundAt f s v c) (e : verdict f ≡ 0
 
   types-most : v ≤ 1 + count f types * 12291
   types-most =
-      let p : lineAt form.Types s 1 (count f types) ≡ v = at-place (record { ends = x .types-there .lines }) in
+      let p : lineAt form.Types s 1 (count f types) ≡ v = place-is (record { ends = x .types-there .lines }) in
       omega (
         arith,
         p,
@@ -85,7 +86,7 @@ module _ {f s : List ℕ} {v c : ℕ} (x : FoundAt f s v c) (e : verdict f ≡ 0
   variables-most : c ≤ v + 1 + count f variables * 12291
   unfolding variableSame variableAt
   variables-most =
-      let p : lineAt form.Variables s (v + 1) (count f variables) ≡ c = at-place (record { ends = x .variables-there .lines }) in
+      let p : lineAt form.Variables s (v + 1) (count f variables) ≡ c = place-is (record { ends = x .variables-there .lines }) in
       omega (
         arith,
         p,
@@ -98,7 +99,7 @@ module _ {f s : List ℕ} {v c : ℕ} (x : FoundAt f s v c) (e : verdict f ≡ 0
   completed-most : length s ≤ c + 1 + count f variables * 12291
   unfolding completedSame completedAt
   completed-most =
-      let p : lineAt form.Completed s (c + 1) (count f variables) ≡ length s = at-place (record { ends = x .completed-there .lines }) in
+      let p : lineAt form.Completed s (c + 1) (count f variables) ≡ length s = place-is (record { ends = x .completed-there .lines }) in
       omega (
         arith,
         p,

@@ -24,7 +24,6 @@ use Rattle.tree.specs.declared.extent.Extent.the-variants.{Ends, Not}
 use Rattle.tree.specs.Part.{onEnd}
 use Rattle.sheet_lines.specs.declared.ends.Form.{Form}
 use Rattle.sheet_lines.specs.declared.ends.Form.the-variants.{Types, Variables, Completed}
-use Rattle.sheet_lines.specs.declared.find.Lines.{Lines}
 use Rattle.sheet_lines.specs.declared.find.Lines.the-variants.{Found, Unreadable}
 use Rattle.sheet_lines.specs.declared.index.Kept.{Kept}
 use Rattle.sheet_lines.specs.declared.index.Kept.the-variants.{Places, Ranks}
@@ -33,7 +32,6 @@ use Rattle.sheet_lines.specs.Index.{mostPlaces, keptWord, keptAt}
 use Rattle.sheet_lines.specs.There.{isEnd}
 use Rattle.sheet_lines.specs.Found.{lastOf, variablesOf, foundOf}
 use Rattle.sheet_lines.specs.Read.{linesIn, sheetAt}
-use Rattle.sheet_lines.proofs.Ending.{EndsAt}
 use Rattle.sheet_lines.proofs.Indexing.{place-near}
 use Rattle.sheet_lines.proofs.Reading.{line-within, lines-front, SectionThere, section-there}
 
@@ -136,11 +134,6 @@ module _ (form : Form) (s : List ℕ) where
       go (Ends e) q i zero l ih = rw (next-place at e 0 q, first-place at, first-place e)
       go (Ends e) q i (suc t) l ih = rw (next-place at e t q, next-place at e (suc t) q) (ih e t i (omega arith))
       go Not q i t l ih = never i
-
--- where a loop over the lines stands
-pub at-place : {form : Form} {s : List ℕ} {at j place : ℕ} → EndsAt form s at j place → lineAt form s at j ≡ place
-unfolding lineAt
-at-place i = rw (i .ends)
 
 ends-is : {x : Extent} {e : ℕ} → x ≡ Ends e → isEnd x ≡ true
 ends-is q = rw q

@@ -26,7 +26,6 @@ use Rattle.laws.specs.Whole.{Good, flatten-length, nodes-some}
 use Rattle.laws.specs.Readable.{whole-tree}
 use Rattle.lines.specs.Memory.{Holds, Remembers}
 use Rattle.records.specs.Tables.{Filled}
-use Rattle.tree.specs.declared.extent.Extent.{Extent}
 use Rattle.tree.specs.declared.extent.Extent.the-variants.{Ends, Not}
 use Rattle.tree.specs.Extent.{treeOf}
 use Rattle.tree.specs.Words.{Stand}

@@ -16,7 +16,7 @@ use Rattle.tree.specs.declared.extent.Extent.{Extent}
 use Rattle.tree.specs.declared.extent.Extent.the-variants.{Ends, Not}
 use Rattle.tree.specs.Extent.{treeOf}
 use Rattle.sheet_lines.specs.declared.ends.Form.{Form}
-use Rattle.sheet_lines.specs.Ends.{headWords, stateAt, emptyHead, nodesEnd, headEnd, lineEnd, linesEnd, lineAt}
+use Rattle.sheet_lines.specs.Ends.{headWords, stateAt, nodesEnd, headEnd, lineEnd, linesEnd, lineAt}
 use Rattle.sheet_lines.specs.There.{isEnd, LineThere, LinesThere, NodesThere}
 use Rattle.sheet_lines.proofs.Ending.{head-shape, empty-zero, tree-within, EndsAt, next-line, broken-line}
 

@@ -1,0 +1,5 @@
+pub mod Telling
+pub mod Matching
+pub mod Looping
+pub mod Answering
+pub mod Demand
