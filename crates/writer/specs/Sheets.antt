@@ -11,7 +11,7 @@ use Rattle.definition.specs.Lines.{variableLine, completedLine}
 use Rattle.definition.specs.Uses.{ranked, ranksOf, rankAt}
 use Rattle.sheet_parts.specs.Resolved.{rankedLine}
 use Rattle.sheet_parts.specs.Section.{sectionOf}
-use Rattle.writer.specs.declared.sheet.Places.{Places}
+use Rattle.writer.specs.declared.resolved.Places.{Places}
 
 -- nothing is refused before the ranks are known
 pub record Passed (f : List ℕ) (out lines room : ℕ) : Type 0 where

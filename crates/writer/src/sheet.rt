@@ -1,17 +1,15 @@
 // The start sheet. Work words are lent as two slices, one for lines and one for room; they end as 0.
 ghost use mathlib.Core.Path.{_≡_};
-ghost use Prim.Native.Nat.{_≤_};
 ghost use lib.ListN.{length};
 ghost use Rattle.definition.specs.Layout as Layout;
-ghost use Rattle.definition.specs.Answers.{roomWords, sheetSays, cleared, writeAnswer, writeOut};
+ghost use Rattle.definition.specs.Answers.{sheetSays, cleared, writeAnswer, writeOut};
 ghost use Rattle.definition.specs.Sheet.{sheetWith};
 ghost use Rattle.definition.specs.Uses.{rankAt};
 ghost use Rattle.records.specs.Starts.{StartsOf, DeclaredIn};
 ghost use Rattle.driver.specs.Driver.{Given};
-ghost use Rattle.sheet_parts.specs.Puts.{Puts};
-ghost use Rattle.sheet_parts.specs.Resolved.{Resolved};
-ghost use Rattle.writer.specs.Sheets.{SheetLong, Answers, AnswersRanked, Passed, LowestRanks};
+ghost use Rattle.writer.specs.Sheets.{Answers, AnswersRanked, Passed, LowestRanks};
 use crate::refusal::refusal;
+use crate::resolved::write_resolved;
 use definition::answers::SheetAnswer;
 use definition::layout::TYPES;
 use driver::every::resolve_types;
@@ -23,83 +21,9 @@ use ranks::lowest::Ranked;
 use ranks::lowest::lowest_ranks;
 use records::words::count;
 use shapes::classes::shape_classes;
-use sheet_parts::types::count_types;
-use sheet_parts::types::put_types;
-use sheet_parts::variables::Both;
-use sheet_parts::variables::count_variables;
-use sheet_parts::variables::put_variables;
 
 // A file has at most 1,024 types.
 const RANK_WORDS: usize = 1024;
-
-// Where the two sections of variables begin, and where the sheet ends.
-pub struct Places {
-    pub value: usize,
-    pub completed: usize,
-    pub end: usize,
-}
-
-fn count_sheet(
-    file: &[u32],
-    source: &[usize],
-    known: &[u32],
-    store: &[u32],
-    room: &mut [u32],
-) -> Places
-    requires { ⌜ Resolved (now file) (now source) (now known) (now store) × (roomWords (now file) ≤ length (now room)) ⌝ }
-    ensures { λ r. ⌜ SheetLong (now (file .entry)) r ⌝ }
-{
-    let types = count_types(file, source, known, store);
-    let words = count_variables(file, source, known, store, room);
-    Places {
-        value: types,
-        completed: types + words.value,
-        end: types + words.value + words.completed,
-    }
-}
-
-// The sheet at the front of out, where it fits.
-fn put_sheet(
-    file: &[u32],
-    source: &[usize],
-    known: &[u32],
-    store: &[u32],
-    ranks: &[u32],
-    room: &mut [u32],
-    out: &mut [u32],
-    at: Places,
-)
-    requires { ⌜ Resolved (now file) (now source) (now known) (now store) × (roomWords (now file) ≤ length (now room)) × (length (now ranks) ≡ Layout.count (now file) Layout.types) × SheetLong (now file) at × (at .end ≤ length (now out)) ⌝ }
-    ensures { λ _. ⌜ Puts (sheetWith (now (file .entry)) (rankAt (now (ranks .entry)))) (now (out .entry)) 0 (at .end) (now (out .exit)) ⌝ }
-{
-    put_types(file, source, known, store, ranks, out);
-    let variables = Both {
-        value: at.value,
-        completed: at.completed,
-    };
-    put_variables(file, source, known, store, room, out, variables);
-}
-
-// The sheet is counted first: a refusal leaves out as it is.
-fn write_resolved(
-    file: &[u32],
-    source: &[usize],
-    known: &[u32],
-    store: &[u32],
-    ranks: &[u32],
-    room: &mut [u32],
-    out: &mut [u32],
-) -> SheetAnswer
-    requires { ⌜ Resolved (now file) (now source) (now known) (now store) × (roomWords (now file) ≤ length (now room)) × (length (now ranks) ≡ Layout.count (now file) Layout.types) ⌝ }
-    ensures { λ r. ⌜ Answers (sheetWith (now (file .entry)) (rankAt (now (ranks .entry)))) (now (out .entry)) r (now (out .exit)) ⌝ }
-{
-    let at = count_sheet(file, source, known, store, room);
-    if out.len() < at.end {
-        return SheetAnswer::Refused(10);
-    }
-    put_sheet(file, source, known, store, ranks, room, out, at);
-    SheetAnswer::Written(at.end)
-}
 
 // Every type is resolved first. A store that is too short for the lines of types is too short for the sheet.
 fn write_given(

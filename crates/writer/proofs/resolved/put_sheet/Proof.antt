@@ -1,8 +1,8 @@
--- `sheet::put_sheet` meets its contract. Assumes nothing.
+-- `resolved::put_sheet` meets its contract. Assumes nothing.
 use borrow.Author.Needs.{needs}
-use Rattle.writer.proofs.Whole.{sheets}
-use Rattle.writer.proofs.sheet.put_sheet.Statement.{statement}
-use Rattle.writer.proofs.sheet.put_sheet.Tie as tie
+use Rattle.writer.proofs.Fitting.{sheets}
+use Rattle.writer.proofs.resolved.put_sheet.Statement.{statement}
+use Rattle.writer.proofs.resolved.put_sheet.Tie as tie
 
 pub put-sheet-spec : {M : Type 1} → statement M
 put-sheet-spec =

@@ -1,8 +1,8 @@
--- `sheet::count_sheet` meets its contract. Assumes nothing.
+-- `resolved::count_sheet` meets its contract. Assumes nothing.
 use borrow.Author.Needs.{needs}
-use Rattle.writer.proofs.Whole.{sheets}
-use Rattle.writer.proofs.sheet.count_sheet.Statement.{statement}
-use Rattle.writer.proofs.sheet.count_sheet.Tie as tie
+use Rattle.writer.proofs.Fitting.{sheets}
+use Rattle.writer.proofs.resolved.count_sheet.Statement.{statement}
+use Rattle.writer.proofs.resolved.count_sheet.Tie as tie
 
 pub count-sheet-spec : {M : Type 1} → statement M
 count-sheet-spec =

@@ -1,8 +1,8 @@
--- `sheet::write_resolved` meets its contract. Assumes nothing.
+-- `resolved::write_resolved` meets its contract. Assumes nothing.
 use borrow.Author.Needs.{needs}
-use Rattle.writer.proofs.Whole.{sheets}
-use Rattle.writer.proofs.sheet.write_resolved.Statement.{statement}
-use Rattle.writer.proofs.sheet.write_resolved.Tie as tie
+use Rattle.writer.proofs.Fitting.{sheets}
+use Rattle.writer.proofs.resolved.write_resolved.Statement.{statement}
+use Rattle.writer.proofs.resolved.write_resolved.Tie as tie
 
 pub write-resolved-spec : {M : Type 1} → statement M
 write-resolved-spec =
