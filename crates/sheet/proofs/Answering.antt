@@ -1,5 +1,5 @@
 -- A law for each call and each return of check.rt. Assumes nothing.
-use mathlib.Core.Path.{_≡_, refl, ap, sym, _∙_}
+use mathlib.Core.Path.{_≡_, ap, sym, _∙_}
 use mathlib.Core.Bool.{Bool, true, false}
 use mathlib.Core.List.{List, [], _++_}
 use Prim.Native.Nat.{ℕ, _+_, _-_, _≤_, _<_}
@@ -7,7 +7,7 @@ use native.Mathlib.Omega.{arith}
 use lib.Dec.{eqb, leb}
 use lib.ListN.{length}
 use borrow.Author.Needs.{needs}
-use borrow.Author.Tests.{not-true, not-false, eqb-true, ne-eqb, eq-eqb, le-leb, lt-leb}
+use borrow.Author.Tests.{not-true, not-false, ne-eqb, eq-eqb, le-leb, lt-leb}
 use borrow.Rule.Slice.PartMut.{putMid}
 use Rattle.definition.specs.declared.answers.Acceptance.{Acceptance}
 use Rattle.definition.specs.declared.answers.Acceptance.the-variants as acceptance
@@ -21,6 +21,7 @@ use Rattle.laws.specs.Accepted.{Accepted, accepted, few-types}
 use Rattle.laws.specs.Depths.{few-shapes}
 use Rattle.records.specs.Starts.{StartsOf, DeclaredIn}
 use Rattle.shapes.specs.Classes.{classesOf, classes-at}
+use Rattle.acceptance.proofs.Wanting.{verdict-none, accepted-so, file-passes, file-refuses}
 use Rattle.build.specs.Built.{indexAt, indexIn}
 use Rattle.driver.specs.Driver.{Given}
 use Rattle.driver.specs.Tables.{Front}
@@ -124,29 +125,13 @@ pub ruleset accepting = (needs, accepted-by, shapes-in, accepted-given)
 -- ---- `refusal`
 module _ (f s : List ℕ) {r : Acceptance} (e : acceptanceSays r ≡ acceptAnswer f) where
   pub refused-file : {n : ℕ} → r ≡ acceptance.Refused n → (room : ℕ) → n ≡ checkRefused f s room
-  unfolding acceptanceSays acceptAnswer checkRefused
-  refused-file {n} q room = go (eqb (verdict f) 0) (ap acceptanceSays (sym q) ∙ e)
-    where
-      go : (b : Bool) → refuses n ≡ choose b (λ u. says 0 []) (λ u. refuses (verdict f))
-          → n ≡ choose b (λ u. need (leb (roomWords f) room) 10 λ v. checkAnswer f s) (λ u. verdict f)
-      go true h = let z : _≡_ {A = ℕ} 0 1 = cc in absurd (omega arith)
-      go false h = cc
+  unfolding checkRefused
+  refused-file q room = file-refuses f e (λ u. need (leb (roomWords f) room) 10 λ v. checkAnswer f s) q
 
   module _ (q : r ≡ acceptance.Accepted) where
-    pub file-accepted : verdict f ≡ 0
-    unfolding acceptanceSays acceptAnswer
-    file-accepted = go (eqb (verdict f) 0) refl (ap acceptanceSays (sym q) ∙ e)
-      where
-        go : (b : Bool) → eqb (verdict f) 0 ≡ b → says 0 [] ≡ choose b (λ u. says 0 []) (λ u. refuses (verdict f)) → verdict f ≡ 0
-        go true p h = eqb-true (verdict f) 0 p
-        go false p h = let z : _≡_ {A = ℕ} 0 1 = cc in absurd (omega arith)
-
-    pub file-right : Accepted f
-    file-right = accepted f file-accepted
-
     accepted-refused : (room : ℕ) → checkRefused f s room ≡ need (leb (roomWords f) room) 10 (λ v. checkAnswer f s)
     unfolding checkRefused
-    accepted-refused room = rw (eq-eqb (verdict f) 0 file-accepted)
+    accepted-refused room = file-passes f e (λ u. need (leb (roomWords f) room) 10 λ v. checkAnswer f s) q
 
     module _ {n : ℕ} (k : n ≡ roomWords f) {room : ℕ} where
       pub room-enough : n ≤ room → roomWords f ≤ room
@@ -160,7 +145,7 @@ module _ (f s : List ℕ) {r : Acceptance} (e : acceptanceSays r ≡ acceptAnswe
       refused-sheet h p =
           p ∙ sym (accepted-refused room ∙ ap (λ (b : Bool). need b 10 (λ v. checkAnswer f s)) (le-leb (roomWords f) room (omega arith)))
 
-pub ruleset refusing = (needs, refused-file, file-accepted, file-right, room-enough, refused-room, refused-sheet)
+pub ruleset refusing = (needs, refused-file, verdict-none, accepted-so, room-enough, refused-room, refused-sheet)
 
 -- ---- `check_sheet`
 module _ (f s : List ℕ) (room : ℕ) {r : ℕ} (e : r ≡ checkRefused f s room) where
