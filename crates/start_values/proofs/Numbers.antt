@@ -12,9 +12,13 @@ use Rattle.definition.specs.declared.answers.WorkWords.{WorkWords}
 use Rattle.definition.specs.declared.answers.WorkWords.the-variants as workWords
 use Rattle.definition.specs.declared.answers.TreeAnswer.{TreeAnswer}
 use Rattle.definition.specs.declared.answers.TreeAnswer.the-variants as tree
+use Rattle.definition.specs.declared.answers.SheetAnswer.{SheetAnswer}
+use Rattle.definition.specs.declared.answers.SheetAnswer.the-variants as writing
+use Rattle.definition.specs.declared.answers.CheckAnswer.{CheckAnswer}
+use Rattle.definition.specs.declared.answers.CheckAnswer.the-variants as checking
 use Rattle.definition.specs.Base.{choose}
 use Rattle.definition.specs.Accept.{verdict}
-use Rattle.definition.specs.Answers.{Says, refuses, says, acceptanceSays, wordsSay, treeSays, passCode, packed, valueCode, acceptAnswer}
+use Rattle.definition.specs.Answers.{Says, refuses, says, acceptanceSays, wordsSay, treeSays, sheetSays, checkSays, passCode, packed, valueCode, acceptAnswer}
 
 -- ---- code.rt: a law for each return
 pub accepted-code : {a : Acceptance} → a ≡ acceptance.Accepted → 0 ≡ passCode (acceptanceSays a)
@@ -45,6 +49,22 @@ pub tree-refused : {a : TreeAnswer} {n : ℕ} → a ≡ tree.Refused n → {r : 
 unfolding valueCode treeSays
 tree-refused e h = rw e h
 
+pub sheet-counted : {a : SheetAnswer} {n : ℕ} → a ≡ writing.Written n → n ≡ valueCode (sheetSays a)
+unfolding valueCode packed sheetSays
+sheet-counted e = rw e
+
+pub sheet-refused : {a : SheetAnswer} {n : ℕ} → a ≡ writing.Refused n → {r : ℕ} → r ≡ n * 2 ^ 32 → r ≡ valueCode (sheetSays a)
+unfolding valueCode sheetSays
+sheet-refused e h = rw e h
+
+pub check-passes : {a : CheckAnswer} → a ≡ checking.Passes → 0 ≡ passCode (checkSays a)
+unfolding passCode checkSays
+check-passes e = rw e
+
+pub check-refused : {a : CheckAnswer} {n : ℕ} → a ≡ checking.Refused n → n ≡ passCode (checkSays a)
+unfolding passCode checkSays
+check-refused e = rw e
+
 -- ---- the number of an answer is that of what it says
 pub passes-so : {s t : Says} {r : ℕ} → r ≡ passCode s → s ≡ t → r ≡ passCode t
 passes-so e h = rw (← h) e
@@ -61,6 +81,6 @@ verdict-code f e = e ∙ go (eqb (verdict f) 0) refl
     go true q = sym (eqb-true (verdict f) 0 q)
     go false q = refl
 
-pub ruleset codes = (needs, accepted-code, refused-code, words-counted, words-refused, tree-counted, tree-none, tree-refused)
+pub ruleset codes = (needs, accepted-code, refused-code, words-counted, words-refused, tree-counted, tree-none, tree-refused, sheet-counted, sheet-refused, check-passes, check-refused)
 
 pub ruleset numbers = (needs, passes-so, says-so)

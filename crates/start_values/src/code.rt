@@ -1,10 +1,12 @@
 // Answers as numbers, for C: the refusal's number alone where a function only passes or refuses; else it stands in the high word, and the value in the low one.
 ghost use mathlib.Core.Path.{_≡_};
 ghost use Prim.Native.Nat.{_*_, _^_};
-ghost use Rattle.definition.specs.Answers.{acceptanceSays, wordsSay, treeSays, completedSays, passCode, valueCode};
+ghost use Rattle.definition.specs.Answers.{acceptanceSays, wordsSay, treeSays, completedSays, sheetSays, checkSays, passCode, valueCode};
 ghost use Rattle.start_values.specs.Counted.{Counted};
 use definition::answers::Acceptance;
+use definition::answers::CheckAnswer;
 use definition::answers::CompletedAnswer;
+use definition::answers::SheetAnswer;
 use definition::answers::TreeAnswer;
 use definition::answers::WorkWords;
 
@@ -51,5 +53,23 @@ pub fn completed_code(answer: CompletedAnswer) -> u64
         CompletedAnswer::Completed(kind, nodes) => (kind as u64) * 65536 + nodes as u64,
         CompletedAnswer::Left => 0,
         CompletedAnswer::Refused(n) => refusal_code(n),
+    }
+}
+
+pub fn sheet_code(answer: SheetAnswer) -> u64
+    ensures { λ r. ⌜ r ≡ valueCode (sheetSays answer) ⌝ }
+{
+    match answer {
+        SheetAnswer::Written(words) => words as u64,
+        SheetAnswer::Refused(n) => refusal_code(n),
+    }
+}
+
+pub fn check_code(answer: CheckAnswer) -> u32
+    ensures { λ r. ⌜ r ≡ passCode (checkSays answer) ⌝ }
+{
+    match answer {
+        CheckAnswer::Passes => 0,
+        CheckAnswer::Refused(n) => n,
     }
 }

@@ -3,6 +3,7 @@
 pub mod memory;
 pub mod outcome;
 pub mod program;
+pub mod right;
 #[cfg(feature = "counted")]
 pub mod unreachable;
 pub mod worker;

@@ -4,11 +4,11 @@ use files::layout::File;
 use files::sheet::check;
 use generate::random::Random;
 use generate::{file, Size};
+use oracle::right::{right, Right};
 
 use crate::differs;
 use crate::lent::Lent;
 use crate::library::check_sheet;
-use crate::right::{right, Right};
 use crate::trees::work_words;
 
 /// A file with what is right for it, and what its sheets were answered with.

@@ -9,14 +9,10 @@
 //! plain reading of document 01 (oracle/files/src/sheet.rs).
 //!
 //! Either fails on any difference.
-//!
-//! `sheets stored < FRAMED-FILES`: the input of the program `sheet_vectors`.
 
 mod changed;
 mod lent;
 mod library;
-mod right;
-mod stored;
 #[path = "../../trees/src/library.rs"]
 mod trees;
 mod written;
@@ -44,9 +40,8 @@ fn main() {
     match parsed {
         Some(("written", seed, count, size)) => written::run(seed, count, size),
         Some(("changed", seed, count, size)) => changed::run(seed, count, size),
-        _ if arguments == ["stored"] => stored::run().expect("frames in, words out"),
         _ => {
-            eprintln!("usage: sheets written|changed SEED COUNT small|medium|large | stored");
+            eprintln!("usage: sheets written|changed SEED COUNT small|medium|large");
             exit(2);
         }
     }

@@ -6,11 +6,11 @@ use files::verdict::verdict;
 use generate::damage::damage;
 use generate::random::Random;
 use generate::{file, Size};
+use oracle::right::{right, Right};
 
 use crate::differs;
 use crate::lent::Lent;
 use crate::library::{check_sheet, write_sheet};
-use crate::right::{right, Right};
 use crate::trees::{ask, work_words, What};
 
 /// No tree has more words.

@@ -4,7 +4,8 @@
 use answers::{Answers, Completed, Tree};
 use files::layout::{File, TYPES, VARIABLES};
 use files::sheet::{lowest_ranks, sheet, Lines};
-use oracle::outcome::{outcome, Outcome};
+
+use crate::outcome::{outcome, Outcome};
 
 pub struct Right {
     pub lines: Lines,

@@ -1,0 +1,15 @@
+-- `sheets::wirkesu_write_sheet` meets its contract. Assumes nothing.
+use Rattle.start_values.proofs.Numbers.{numbers}
+use Rattle.start_values.proofs.sheets.wirkesu_write_sheet.Statement.{statement}
+use Rattle.start_values.proofs.sheets.wirkesu_write_sheet.Tie as tie
+
+pub wirkesu-write-sheet-spec : {M : Type 1} → statement M
+wirkesu-write-sheet-spec =
+    tie.close
+    (tie.spec
+    (λ c κs. search numbers)
+    (λ c κs. search numbers)
+    (λ c. search numbers)
+    (λ c. search numbers)
+    (λ c. search numbers)
+    (λ c. search numbers))
