@@ -95,7 +95,7 @@ fn shorter(counts: &mut Counts, words: &[u32], lent: &mut Lent, [lines, room]: [
 fn other_ranks(counts: &mut Counts, random: &mut Random, words: &[u32], right: &Right, ranks: &[u32], lent: &mut Lent, room: usize) {
     let file = File::open(words).expect("it is a file");
     let more = random.below(1000);
-    let times = 1 + random.below(1_000_000);
+    let times = 1 + random.below(3);
     let raised: Vec<u32> = ranks.iter().map(|rank| rank * times + more).collect();
     checks(words, lent, room, &right.sheet(&raised), 0);
     let moved: Vec<u32> = raised.iter().map(|rank| rank.wrapping_add(random.below(3)).wrapping_sub(1)).collect();
