@@ -178,7 +178,15 @@ fn replay_fronts(
         return 0;
     }
     let file = &words[..file_words];
-    replay_sheet(file, k, refused, &mut sheet[..sheet_words], out, lines, room)
+    replay_sheet(
+        file,
+        k,
+        refused,
+        &mut sheet[..sheet_words],
+        out,
+        lines,
+        room,
+    )
 }
 
 fn replay_file(

@@ -1,5 +1,5 @@
 -- `replay_lent` meets its contract. Assumes nothing.
-use Rattle.resolver_vectors.proofs.Fronts.{fronts}
+use Rattle.vector_io.proofs.Fronts.{fronts}
 use Rattle.resolver_vectors.proofs.replay_lent.Statement.{statement}
 use Rattle.resolver_vectors.proofs.replay_lent.Tie as tie
 
