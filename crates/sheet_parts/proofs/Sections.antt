@@ -121,17 +121,17 @@ module _ {f source tables store : List ℕ} (k : Resolved f source tables store)
           most = omega (arith, x .most, line-few y);
         }
 
-    module _ (ranks : List ℕ) {line : Line} (e : line ≡ rememberedLine (getD ranks t 0) (rememberedOf (indexIn tables) store t)) where
-      lies : LineLies (rankedLine f (rankAt ranks) t) line store
+    module _ (ranks : List ℕ) {old : List ℕ} {at end : ℕ} {out : List ℕ} (x : Writing (rankedLine f (rankAt ranks)) (count f types) old at t end out) (r : ℕ) {line : Line}
+        (e : line ≡ rememberedLine r (rememberedOf (indexIn tables) store t)) where
+      -- whatever the rank
+      pub type-fits : LineFits line (length store) (end + 1) (length out)
+      type-fits = line-fits (type-lies k (λ t. r) t (omega arith) e) end (length out) (writing-room (rankedLine f (rankAt ranks)) x (omega arith))
+
+      pub type-next : r ≡ getD ranks t 0 → {b : ℕ} {new : List ℕ} → Puts (lineIn line store) out end b new → Writing (rankedLine f (rankAt ranks)) (count f types) old at (t + 1) b new
       unfolding rankAt
-      lies = type-lies k (rankAt ranks) t (omega arith) e
-
-      pub type-fits : {old : List ℕ} {at end : ℕ} {out : List ℕ} → Writing (rankedLine f (rankAt ranks)) (count f types) old at t end out → LineFits line (length store) (end + 1) (length out)
-      type-fits {old} {at} {end} {out} x = line-fits lies end (length out) (writing-room (rankedLine f (rankAt ranks)) x (omega arith))
-
-      pub type-next : {old : List ℕ} {at end : ℕ} {out : List ℕ} → Writing (rankedLine f (rankAt ranks)) (count f types) old at t end out
-          → {e : ℕ} {new : List ℕ} → Puts (lineIn line store) out end e new → Writing (rankedLine f (rankAt ranks)) (count f types) old at (t + 1) e new
-      type-next x p = writing-next (rankedLine f (rankAt ranks)) x (line-puts lies p)
+      type-next i p =
+          let y : LineLies (rankedLine f (rankAt ranks) t) line store = type-lies k (rankAt ranks) t (omega arith) (e ∙ ap (λ (w : ℕ). rememberedLine w (rememberedOf (indexIn tables) store t)) i) in
+          writing-next (rankedLine f (rankAt ranks)) x (line-puts y p)
 
 -- ---- variables
 pub lines-counted : {f : List ℕ} {v : ℕ} {line : Line} {room : List ℕ} → ValueLies (variableLine f v) line room → {slot : Line} {room' : List ℕ} → LineLies (completedLine f v) slot room'

@@ -67,8 +67,8 @@ pub ruleset resolved = (needs, full-short)
 
 -- ---- `write_lowest`
 module _ {f : List ℕ} {n : ℕ} {r : lowest.Ranked} {new : List ℕ} (g : Found (ranksOf f) n r new) where
-  pub found-lowest : r ≡ Ranks → length new ≡ count f types → LowestRanks f new
-  found-lowest i e = record { is = found-ranked (ranksOf f) g i; long = e }
+  pub found-lowest : r ≡ Ranks → LowestRanks f new
+  found-lowest i = record { is = found-ranked (ranksOf f) g i }
 
   pub found-none : r ≡ Circle → {old : List ℕ} → AnswersRanked f old (writing.Refused 9) old
   unfolding sheetSays rankedAnswer rankedOut

@@ -22,7 +22,6 @@ pub record Passed (f : List ℕ) (out lines room : ℕ) : Type 0 where
 -- the lowest ranks
 pub record LowestRanks (f ranks : List ℕ) : Type 0 where
   pub is : ranksOf f ≡ ranked ranks
-  pub long : length ranks ≡ count f types
 
 -- where the sections of variables begin, and where the sheet ends
 pub record SheetLong (f : List ℕ) (at : Places) : Type 0 where

@@ -1,8 +1,6 @@
 // The sheet of a file whose types are resolved: counted, and written if it fits.
-ghost use mathlib.Core.Path.{_≡_};
 ghost use Prim.Native.Nat.{_≤_};
 ghost use lib.ListN.{length};
-ghost use Rattle.definition.specs.Layout as Layout;
 ghost use Rattle.definition.specs.Answers.{roomWords};
 ghost use Rattle.definition.specs.Sheet.{sheetWith};
 ghost use Rattle.definition.specs.Uses.{rankAt};
@@ -53,7 +51,7 @@ fn put_sheet(
     out: &mut [u32],
     at: Places,
 )
-    requires { ⌜ Resolved (now file) (now source) (now known) (now store) × (roomWords (now file) ≤ length (now room)) × (length (now ranks) ≡ Layout.count (now file) Layout.types) × SheetLong (now file) at × (at .end ≤ length (now out)) ⌝ }
+    requires { ⌜ Resolved (now file) (now source) (now known) (now store) × (roomWords (now file) ≤ length (now room)) × SheetLong (now file) at × (at .end ≤ length (now out)) ⌝ }
     ensures { λ _. ⌜ Puts (sheetWith (now (file .entry)) (rankAt (now (ranks .entry)))) (now (out .entry)) 0 (at .end) (now (out .exit)) ⌝ }
 {
     put_types(file, source, known, store, ranks, out);
@@ -74,7 +72,7 @@ pub fn write_resolved(
     room: &mut [u32],
     out: &mut [u32],
 ) -> SheetAnswer
-    requires { ⌜ Resolved (now file) (now source) (now known) (now store) × (roomWords (now file) ≤ length (now room)) × (length (now ranks) ≡ Layout.count (now file) Layout.types) ⌝ }
+    requires { ⌜ Resolved (now file) (now source) (now known) (now store) × (roomWords (now file) ≤ length (now room)) ⌝ }
     ensures { λ r. ⌜ Answers (sheetWith (now (file .entry)) (rankAt (now (ranks .entry)))) (now (out .entry)) r (now (out .exit)) ⌝ }
 {
     let at = count_sheet(file, source, known, store, room);

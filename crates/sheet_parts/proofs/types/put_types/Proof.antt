@@ -28,8 +28,7 @@ put-types-spec =
     (λ c κs. search writing)
     (λ c. search writing)
     (λ c. search writing)
-    (λ c. search writing)
-    (λ c. search writing)
+    (λ c κs. search writing)
     (λ c κs. search writing)
     (λ c κs. search writing)
     (λ c. search writing)
@@ -40,6 +39,6 @@ put-types-spec =
     let h = c .before .before .before .before .before .before .loop-test .taken in
     let p = c .before .before .put-line in
     let l = p .kept in
-    (type-next k (i .2) h _ (c .before .before .before .before .type-line .ensures) (i .0) (p .ensures), omega (arith, h), i .2, search needs))
+    (type-next k (i .2) h _ (i .0) _ (c .before .before .before .before .type-line .ensures) (c .before .before .before .before .before .word-at .ensures) (p .ensures), omega (arith, h), i .2, search needs))
     (λ c. search writing)
     (λ c. search writing))

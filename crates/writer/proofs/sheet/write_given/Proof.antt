@@ -15,7 +15,7 @@ write-given-spec =
     let p = c .before .before .before .before .before .before .before .before .before .before .before .before .before .before .before .before .before .before .before .before .before .before .before .before .pre in
     let s = c .before .before .before .before .before .before .before .before .before .before .before .before .before .resolve-types in
     let k = s .kept in
-    (all-resolved (p .1) (p .2) (p .0) (s .ensures .0) (s .ensures .1) (c .before .before .before .before .before .stored .given .1), room-kept (p .1 .roomy) _ (search needs), p .2 .long))
+    (all-resolved (p .1) (p .2) (p .0) (s .ensures .0) (s .ensures .1) (c .before .before .before .before .before .stored .given .1), room-kept (p .1 .roomy) _ (search needs)))
     (λ c. search needs)
     (λ c. search needs)
     (λ c. search needs)
