@@ -25,7 +25,7 @@ pub record SectionLong (line : ℕ → List ℕ) (many r : ℕ) : Type 0 where
 
 -- of types, whatever their ranks
 pub record TypesLong (f : List ℕ) (many r : ℕ) : Type 0 where
-  pub long : (rank : ℕ → ℕ) → SectionLong (rankedLine f rank) many r
+  pub is : (rank : ℕ → ℕ) → r ≡ length (sectionOf (rankedLine f rank) many)
   pub most : r ≤ many * 12291 + 1
 
 -- there is room for a section at a place of so many words

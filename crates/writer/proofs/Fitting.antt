@@ -56,7 +56,7 @@ module _ {f : List ℕ} {t : ℕ} (x : TypesLong f (count f types) t) {w : Both}
     three-fit = record { fits = omega (arith, most) }
 
   pub sheet-counted : SheetLong f (record { value = t; completed = t + w .value; end = t + w .value + w .completed })
-  sheet-counted = record { types = λ ranks. x .long (rankAt ranks) .is; value = omega (arith, y .value .is); completed = omega (arith, y .completed .is) }
+  sheet-counted = record { types = λ ranks. x .is (rankAt ranks); value = omega (arith, y .value .is); completed = omega (arith, y .completed .is) }
 
 -- ---- `put_sheet`
 module _ {f : List ℕ} {at : Places} (x : SheetLong f at) where

@@ -4,7 +4,7 @@ use Prim.Native.Nat.{_-_, _≤_}
 use lib.ListN.{length}
 use Rattle.definition.specs.Layout.{count, variables}
 use Rattle.sheet_parts.specs.Section.{SectionsLong}
-use Rattle.sheet_parts.proofs.Sections.{counting}
+use Rattle.sheet_parts.proofs.Beside.{counting}
 use Rattle.sheet_parts.proofs.variables.count_variables.Statement.{statement}
 use Rattle.sheet_parts.proofs.variables.count_variables.Tie as tie
 

@@ -1,6 +1,6 @@
 -- `variables::put_variable` meets its contract. Assumes nothing.
 use borrow.Author.Needs.{needs}
-use Rattle.sheet_parts.proofs.Sections.{putting}
+use Rattle.sheet_parts.proofs.Beside.{putting}
 use Rattle.sheet_parts.proofs.variables.put_variable.Statement.{statement}
 use Rattle.sheet_parts.proofs.variables.put_variable.Tie as tie
 

@@ -4,7 +4,7 @@ use Prim.Native.Nat.{_-_, _≤_}
 use lib.ListN.{length}
 use Rattle.definition.specs.Layout.{count, variables}
 use Rattle.sheet_parts.specs.Section.{WritingBoth}
-use Rattle.sheet_parts.proofs.Sections.{both}
+use Rattle.sheet_parts.proofs.Beside.{both}
 use Rattle.sheet_parts.proofs.variables.put_variables.Statement.{statement}
 use Rattle.sheet_parts.proofs.variables.put_variables.Tie as tie
 

@@ -1,6 +1,6 @@
 -- `variables::variable_words` meets its contract. Assumes nothing.
 use borrow.Author.Needs.{needs}
-use Rattle.sheet_parts.proofs.Sections.{counting}
+use Rattle.sheet_parts.proofs.Beside.{counting}
 use Rattle.sheet_parts.proofs.variables.variable_words.Statement.{statement}
 use Rattle.sheet_parts.proofs.variables.variable_words.Tie as tie
 
