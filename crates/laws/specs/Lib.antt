@@ -4,6 +4,7 @@
 pub mod Cases
 pub mod Every
 pub mod Lower
+pub mod Puts
 -- ---- computations that ask, and how they are answered
 pub mod Asks
 pub mod Binds

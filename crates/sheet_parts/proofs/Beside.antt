@@ -10,12 +10,12 @@ use Rattle.definition.specs.Lines.{variableLine, completedLine}
 use Rattle.definition.specs.Sheet.{linesFrom}
 use Rattle.sheet_parts.specs.declared.line.Line.{Line}
 use Rattle.sheet_parts.specs.declared.variables.Both.{Both}
-use Rattle.sheet_parts.specs.Puts.{Puts}
+use Rattle.laws.specs.Puts.{Puts, puts-none, puts-long, puts-then}
 use Rattle.sheet_parts.specs.Line.{LineFits, ValueLies, LineLies}
 use Rattle.sheet_parts.specs.Section.{sectionOf, LinesLong, SectionsLong, PutsBoth, BothRoom, WritingBoth, SectionsRoom}
-use Rattle.sheet_parts.proofs.Putting.{puts-long, puts-then, puts-swap}
+use Rattle.sheet_parts.proofs.Putting.{puts-swap}
 use Rattle.sheet_parts.proofs.Lining.{value-few, value-long, value-fits, value-puts, line-few, line-long, line-fits, line-puts}
-use Rattle.sheet_parts.proofs.Sections.{lines-last, lines-none, lines-within, puts-none, section-starts, section-next}
+use Rattle.sheet_parts.proofs.Sections.{lines-last, lines-none, lines-within, section-starts, section-next}
 
 -- ---- counted
 pub lines-counted : {f : List ℕ} {v : ℕ} {line : Line} {room : List ℕ} → ValueLies (variableLine f v) line room → {slot : Line} {room' : List ℕ} → LineLies (completedLine f v) slot room'

@@ -21,9 +21,8 @@ use Rattle.build.specs.declared.built.Built.{Built}
 use Rattle.build.specs.declared.built.Built.the-variants as built
 use Rattle.driver.specs.Told.{Tells}
 use Rattle.sheet_parts.specs.declared.line.Line.{Line}
-use Rattle.sheet_parts.specs.Puts.{Puts}
+use Rattle.laws.specs.Puts.{Puts, puts-long, puts-then}
 use Rattle.sheet_parts.specs.Line.{valueIn, lineIn, Within, LineFits, ValueLies, LineLies, lineOf, emptyLine, rememberedLine, builtLine}
-use Rattle.sheet_parts.proofs.Putting.{puts-long, puts-then}
 
 -- ---- `remembered_line` and `built_line`
 module _ (rank : ℕ) {w : Remembered} {l : Line} where

@@ -1,49 +1,23 @@
 -- Words that are put one behind the other. Assumes nothing.
 use mathlib.Core.Path.{_≡_, refl, ap, sym, _∙_}
 use mathlib.Core.Bool.{Bool, true, false, _&&_}
-use mathlib.Core.List.{List, [], _∷_, _++_, append-assoc}
-use Prim.Native.Nat.{ℕ, suc, _+_, _-_, _≤_, _<_}
+use mathlib.Core.List.{List, _++_, append-assoc}
+use Prim.Native.Nat.{ℕ, _+_, _-_, _≤_}
 use native.Mathlib.Omega.{arith}
-use native.Mathlib.Numerals.{add-one}
 use lib.Dec.{leb}
-use lib.ListN.{length, take, drop, set, length-append, length-drop}
-use lib.Seq.{slice, take-at, drop-at, take-take, take-append-add, drop-append-le, length-slice, length-take-le, set-split, append-snoc}
+use lib.ListN.{length, take, drop}
+use lib.Seq.{slice, take-at, take-take, take-append-add, drop-append-le, length-slice, length-take-le}
 use borrow.Author.Needs.{needs}
 use borrow.Author.Tests.{le-leb}
 use Rattle.tree.specs.declared.extent.Extent.{Extent}
 use Rattle.tree.specs.declared.extent.Extent.the-variants as extent
 use Rattle.tree.specs.Words.{Copyable, WroteCopy}
 use Rattle.tree.proofs.Standing.{wrote-so-is}
-use Rattle.tree.proofs.Stands.{take-drop, drop-past}
+use Rattle.tree.proofs.Stands.{take-drop}
 use Rattle.lines.proofs.Copying.{wrote-not-is}
-use Rattle.sheet_parts.specs.Puts.{Puts}
+use Rattle.laws.specs.Puts.{Puts, front-long, puts-rest, puts-long, put-one}
 
 module _ {ws old : List ℕ} {a b : ℕ} {mid : List ℕ} (p : Puts ws old a b mid) where
-  front-long : length (take a old ++ ws) ≡ b
-  front-long = length-append (take a old) ws ∙ ap (λ (k : ℕ). k + length ws) (length-take-le a old (omega (arith, p .ends, p .fits))) ∙ sym (p .ends)
-
-  pub puts-long : length mid ≡ length old
-  puts-long = rw (p .is) (length-append (take a old ++ ws) (drop b old) ∙ ap (λ (k : ℕ). k + length (drop b old)) front-long ∙ simp length-drop (omega (arith, p .fits)))
-
-  puts-front : take b mid ≡ take a old ++ ws
-  puts-front = rw (p .is) (take-at (take a old ++ ws) (drop b old) b front-long)
-
-  puts-rest : drop b mid ≡ drop b old
-  puts-rest = rw (p .is) (drop-at (take a old ++ ws) (drop b old) b front-long)
-
-  -- one behind the other
-  pub puts-then : {vs new : List ℕ} {c : ℕ} → Puts vs mid b c new → Puts (ws ++ vs) old a c new
-  puts-then {vs} {new} {c} q =
-      record {
-        ends = simp length-append (omega (arith, p .ends, q .ends));
-        fits = omega (arith, q .fits, puts-long);
-        is =
-            q .is
-            ∙ ap (λ (l : List ℕ). l ++ vs ++ drop c mid) puts-front
-            ∙ ap (λ (l : List ℕ). take a old ++ ws ++ vs ++ l) (drop-past b c mid old (omega (arith, q .ends)) puts-rest)
-            ∙ ap (λ (l : List ℕ). l ++ drop c old) (append-assoc (take a old) ws vs);
-      }
-
   -- what lies before them
   puts-before : take a mid ≡ take a old
   puts-before = rw (p .is, append-assoc (take a old) ws (drop b old)) (take-at (take a old) (ws ++ drop b old) a (length-take-le a old (omega (arith, p .ends, p .fits))))
@@ -94,13 +68,9 @@ module _ {ws old : List ℕ} {b c : ℕ} {mid : List ℕ} (p : Puts ws old b c m
               ∙ ap (λ (l : List ℕ). take a old ++ vs ++ l) rest-same
               ∙ k
               ∙ ap (λ (l : List ℕ). l ++ ws ++ drop c old) (sym early-front)
-              ∙ ap (λ (l : List ℕ). take b early ++ ws ++ l) (sym (drop-past r c early old (omega (arith, p .ends)) (puts-rest early-puts)));
+              ∙ ap (λ (l : List ℕ). take b early ++ ws ++ l) (sym (puts-rest early-puts c (omega (arith, p .ends))));
         };
       }
-
--- one word
-pub put-one : (old : List ℕ) (at word : ℕ) → at < length old → Puts (word ∷ []) old at (at + 1) (set old at word)
-put-one old at word h = record { ends = refl; fits = omega arith; is = rw (add-one at) (set-split old at word h ∙ sym (append-snoc (take at old) word (drop (suc at) old))) }
 
 -- nodes
 abbrev copyTest : List ℕ → ℕ → ℕ → List ℕ → ℕ → Bool

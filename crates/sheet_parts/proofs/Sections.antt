@@ -5,7 +5,7 @@ use Prim.Native.Nat.{ℕ, zero, suc, _+_, _-_, _*_, _≤_, _<_}
 use native.Mathlib.Omega.{arith}
 use native.Mathlib.Numerals.{add-one}
 use native.Mathlib.Nat.{add-zero, zero-add, suc-add}
-use lib.ListN.{length, getD, take, drop, length-append, take-append-drop}
+use lib.ListN.{length, getD, length-append}
 use borrow.Author.Needs.{needs}
 use Rattle.definition.specs.Layout.{count, types}
 use Rattle.definition.specs.Sheet.{linesFrom}
@@ -13,11 +13,10 @@ use Rattle.definition.specs.Uses.{rankAt}
 use Rattle.lines.specs.Look.{rememberedOf}
 use Rattle.build.specs.Built.{indexIn}
 use Rattle.sheet_parts.specs.declared.line.Line.{Line}
-use Rattle.sheet_parts.specs.Puts.{Puts}
+use Rattle.laws.specs.Puts.{Puts, puts-none, puts-long, puts-then}
 use Rattle.sheet_parts.specs.Line.{lineIn, LineFits, LineLies, rememberedLine}
 use Rattle.sheet_parts.specs.Resolved.{Resolved, rankedLine}
 use Rattle.sheet_parts.specs.Section.{sectionOf, LineLong, SectionLong, TypesLong, SectionRoom, Writing}
-use Rattle.sheet_parts.proofs.Putting.{puts-long, puts-then}
 use Rattle.sheet_parts.proofs.Lining.{line-few, line-long, line-fits, line-puts}
 use Rattle.sheet_parts.proofs.Parts.{type-lies}
 
@@ -51,9 +50,6 @@ module _ (line : ℕ → List ℕ) where
       let d : (many - (k + 1)) + (k + 1) ≡ many = omega arith in
       let m : length (linesFrom line 0 (k + 1)) ≤ length (linesFrom line 0 many) = rw d at (lines-more (many - (k + 1)) (k + 1)) in
       omega (arith, lines-long k)
-
-pub puts-none : (old : List ℕ) (at : ℕ) → at ≤ length old → Puts [] old at at old
-puts-none old at h = record { ends = sym (add-zero at); fits = h; is = sym (ap (λ (l : List ℕ). l ++ drop at old) (append-nil (take at old)) ∙ take-append-drop at old) }
 
 -- ---- a section that is counted
 module _ (line : ℕ → List ℕ) where

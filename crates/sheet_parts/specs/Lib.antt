@@ -1,4 +1,3 @@
-pub mod Puts
 pub mod Line
 pub mod Resolved
 pub mod Section

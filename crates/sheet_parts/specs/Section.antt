@@ -7,7 +7,7 @@ use Rattle.definition.specs.Layout.{count, variables}
 use Rattle.definition.specs.Lines.{variableLine, completedLine}
 use Rattle.definition.specs.Sheet.{linesFrom}
 use Rattle.sheet_parts.specs.declared.variables.Both.{Both}
-use Rattle.sheet_parts.specs.Puts.{Puts}
+use Rattle.laws.specs.Puts.{Puts}
 use Rattle.sheet_parts.specs.Resolved.{rankedLine}
 
 -- the count and so many lines

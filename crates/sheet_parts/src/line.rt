@@ -3,7 +3,7 @@ ghost use mathlib.Core.Path.{_≡_};
 ghost use Prim.Native.Nat.{_+_, _*_, _≤_};
 ghost use lib.ListN.{length};
 ghost use Rattle.sheet_parts.specs.Line.{LineFits, valueIn, lineIn, emptyLine, rememberedLine, builtLine};
-ghost use Rattle.sheet_parts.specs.Puts.{Puts};
+ghost use Rattle.laws.specs.Puts.{Puts};
 use crate::put::put_nodes;
 use crate::put::put_word;
 use build::built::Built;

@@ -4,7 +4,7 @@ ghost use Prim.Native.Nat.{_+_, _*_, _<_};
 ghost use lib.ListN.{length};
 ghost use lib.Seq.{slice};
 ghost use Rattle.tree.specs.Words.{Copyable};
-ghost use Rattle.sheet_parts.specs.Puts.{Puts};
+ghost use Rattle.laws.specs.Puts.{Puts};
 use lines::copy::copy_nodes;
 use tree::extent::Extent;
 

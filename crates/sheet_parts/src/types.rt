@@ -2,7 +2,7 @@
 ghost use lib.ListN.{length};
 ghost use Rattle.definition.specs.Layout as Layout;
 ghost use Rattle.definition.specs.Uses.{rankAt};
-ghost use Rattle.sheet_parts.specs.Puts.{Puts};
+ghost use Rattle.laws.specs.Puts.{Puts};
 ghost use Rattle.sheet_parts.specs.Resolved.{Resolved, rankedLine};
 ghost use Rattle.sheet_parts.specs.Section.{sectionOf, TypesLong, SectionRoom};
 use crate::line::put_line;

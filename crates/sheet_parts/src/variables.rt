@@ -7,7 +7,7 @@ ghost use Rattle.definition.specs.Answers.{roomWords};
 ghost use Rattle.definition.specs.Lines.{variableLine, completedLine};
 ghost use Rattle.records.specs.Starts.{StartsOf};
 ghost use Rattle.sheet_parts.specs.Line.{ValueLies};
-ghost use Rattle.sheet_parts.specs.Puts.{Puts};
+ghost use Rattle.laws.specs.Puts.{Puts};
 ghost use Rattle.sheet_parts.specs.Resolved.{Resolved};
 ghost use Rattle.sheet_parts.specs.Section.{sectionOf, LinesLong, SectionsLong, BothRoom, SectionsRoom, PutsBoth};
 use crate::line::Line;

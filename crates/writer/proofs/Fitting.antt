@@ -18,10 +18,9 @@ use Rattle.definition.specs.Uses.{rankAt}
 use Rattle.definition.specs.Sheet.{sheetWith}
 use Rattle.laws.specs.Accepted.{Accepted, count-most, few-types}
 use Rattle.sheet_parts.specs.declared.variables.Both.{Both}
-use Rattle.sheet_parts.specs.Puts.{Puts}
+use Rattle.laws.specs.Puts.{Puts, puts-long, puts-then}
 use Rattle.sheet_parts.specs.Resolved.{Resolved, rankedLine}
 use Rattle.sheet_parts.specs.Section.{sectionOf, TypesLong, SectionRoom, SectionsLong, SectionsRoom}
-use Rattle.sheet_parts.proofs.Putting.{puts-long, puts-then}
 use Rattle.writer.specs.Sheets.{SheetLong, Answers}
 use Rattle.writer.specs.declared.resolved.Places.{Places}
 

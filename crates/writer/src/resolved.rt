@@ -4,7 +4,7 @@ ghost use lib.ListN.{length};
 ghost use Rattle.definition.specs.Answers.{roomWords};
 ghost use Rattle.definition.specs.Sheet.{sheetWith};
 ghost use Rattle.definition.specs.Uses.{rankAt};
-ghost use Rattle.sheet_parts.specs.Puts.{Puts};
+ghost use Rattle.laws.specs.Puts.{Puts};
 ghost use Rattle.sheet_parts.specs.Resolved.{Resolved};
 ghost use Rattle.writer.specs.Sheets.{SheetLong, Answers};
 use definition::answers::SheetAnswer;
