@@ -1,5 +1,6 @@
-//! Files on which resolving takes long: a type that wants many others, and
-//! many function block types over the same nested entries.
+//! Files on which resolving takes long: a type that wants many others, many
+//! function block types over the same nested entries, the longest sheets, and the
+//! most uses.
 
 use files::layout::*;
 use files::records::Records;
@@ -73,6 +74,38 @@ pub fn chain(blocks: u32, pairs: u32, fields: u32) -> Vec<u32> {
     let start = records.push(INITIALIZERS, &[3, 4, 0, 0, 0, 0, 0, 0]);
     for name in 1..=5 {
         records.push(VARIABLES, &[name, 4, 4, start]);
+    }
+    records.words()
+}
+
+/// Variables of an array of 2,047 INT, the largest tree.
+pub fn largest(variables: u32) -> Vec<u32> {
+    let mut records = begun();
+    records.push(SHAPES, &[12, 0, 0, 1, 0]);
+    records.push(DIMENSIONS, &[1, 2047]);
+    records.push(TYPES, &PLAIN);
+    records.push(TYPES, &[1, 0, 1, 0, 0, 0, 0, 0, 0, INLINE, 0]);
+    let bare = records.push(INITIALIZERS, &[3, 2, 0, 0, 0, 0, 0, 0]);
+    for name in 1..=variables {
+        records.push(VARIABLES, &[name, 4, 2, bare]);
+    }
+    records.words()
+}
+
+/// Function block types that share a run of 4,096 variables and 4,096 block
+/// fields, each an alias of the next, so that the last has to be ranked first.
+pub fn uses(types: u32) -> Vec<u32> {
+    let mut records = begun();
+    records.push(TYPES, &PLAIN);
+    let bare = records.push(INITIALIZERS, &[3, 1, 0, 0, 0, 0, 0, 0]);
+    for name in 1..=4096 {
+        records.push(VARIABLES, &[name, 4, 1, bare]);
+        records.push(BLOCK_FIELDS, &[name, 1, 0]);
+    }
+    for number in 1..=types {
+        let shape = records.push(SHAPES, &[14, number, 0, 0, 0]);
+        let base = if number < types { number + 2 } else { 0 };
+        records.push(TYPES, &[shape, base, 0, 0, 9, 0, 0, 0, 4096, 0, 4096]);
     }
     records.words()
 }

@@ -1,13 +1,18 @@
 //! `cost TIMES exhibit STATIONS`, `cost TIMES wanting TYPES`,
+//! `cost TIMES largest VARIABLES`, `cost TIMES uses TYPES`,
 //! `cost TIMES chain BLOCKS ENTRIES FIELDS`: the start value of one variable of
-//! a file, by the proved static library and by the Rust, which resolves the
-//! declared types first as the library does. Under `valgrind --tool=callgrind` the inclusive
-//! instructions of `library_variable` and `rust_variable` are what each takes;
-//! without it the least time of several calls is printed.
+//! a file and then its whole sheet, by the proved static library and by the
+//! Rust, which resolves the declared types first as the library does and for a
+//! sheet completes every variable's initializer. Under `valgrind
+//! --tool=callgrind` the inclusive instructions of `library_variable`,
+//! `rust_variable`, `library_sheet`, `rust_whole` and `library_check` are what
+//! each takes; without it the least time of several calls is printed.
 
 #[path = "../../trees/src/library.rs"]
 mod library;
 mod extremes;
+#[path = "../../sheets/src/library.rs"]
+mod sheets;
 
 use std::env;
 use std::hint::black_box;
@@ -19,6 +24,7 @@ use files::layout::{File, VARIABLES};
 use files::verdict::verdict;
 use generate::exhibits::exhibit;
 use library::{ask, work_words, What};
+use sheets::{check_sheet, write_sheet};
 
 /// A tree has at most so many words.
 const TREE: usize = 2048 * 6;
@@ -32,6 +38,16 @@ struct Lent {
 #[inline(never)]
 fn library_variable(words: &[u32], number: u32, lent: &mut Lent) -> u64 {
     ask(What::Variable, words, number, &mut lent.out, &mut lent.lines, &mut lent.room)
+}
+
+#[inline(never)]
+fn library_sheet(words: &[u32], lent: &mut Lent) -> u64 {
+    write_sheet(words, &mut lent.out, &mut lent.lines, &mut lent.room)
+}
+
+#[inline(never)]
+fn library_check(words: &[u32], sheet: &[u32], room: &mut [u32]) -> u32 {
+    check_sheet(words, sheet, room)
 }
 
 fn least(times: usize, mut call: impl FnMut() -> Duration) -> Duration {
@@ -67,10 +83,39 @@ fn measure(words: &[u32], times: usize) {
     println!("Rust {rust:?}");
 }
 
+/// No sheet has more words.
+const SHEET: usize = (1024 + 2 * 4096) * 12_291 + 3;
+
+fn measure_sheet(words: &[u32], times: usize) {
+    let file = File::open(words).expect("it is a file");
+    let [lines, room] = work_words(words).map(|count| count as usize);
+    let mut lent = Lent {
+        out: vec![0; SHEET],
+        lines: vec![0; lines.min(SHEET)],
+        room: vec![0; room],
+    };
+    let code = library_sheet(words, &mut lent);
+    if code >> 32 != 0 {
+        println!("no sheet: refused {}", code >> 32);
+        return;
+    }
+    let sheet = lent.out[..code as usize].to_vec();
+    assert_eq!(library_check(words, &sheet, &mut lent.room), 0, "the sheet passes");
+    let written = least(times, || timed(|| library_sheet(words, &mut lent)));
+    let checked = least(times, || timed(|| library_check(words, &sheet, &mut lent.room)));
+    let rust = least(times, || {
+        let parsed = Parsed::of(file);
+        timed(|| parsed.rust_whole())
+    });
+    println!("a sheet of {code} words: written {written:?}, checked {checked:?}, Rust {rust:?}");
+}
+
 /// The file of a family that is named with its numbers.
 fn file(family: &str, numbers: &[u32]) -> Option<Vec<u32>> {
     match (family, numbers) {
         ("exhibit", [stations]) => Some(exhibit(*stations)),
+        ("largest", [variables]) => Some(extremes::largest(*variables)),
+        ("uses", [types]) => Some(extremes::uses(*types)),
         ("wanting", [types]) => Some(extremes::wanting(*types)),
         ("chain", [blocks, pairs, fields]) => Some(extremes::chain(*blocks, *pairs, *fields)),
         _ => None,
@@ -83,9 +128,10 @@ fn main() {
     let numbers: Vec<u32> = arguments.iter().filter_map(|word| word.parse().ok()).collect();
     let words = numbers.split_first().and_then(|(times, sizes)| Some((*times, file(family, sizes)?)));
     let Some((times, words)) = words else {
-        eprintln!("usage: cost TIMES exhibit STATIONS | wanting TYPES | chain BLOCKS ENTRIES FIELDS");
+        eprintln!("usage: cost TIMES exhibit STATIONS | wanting TYPES | largest VARIABLES | uses TYPES | chain BLOCKS ENTRIES FIELDS");
         exit(2);
     };
     assert_eq!(verdict(&words), 0, "refused");
     measure(&words, times as usize);
+    measure_sheet(&words, times as usize);
 }
