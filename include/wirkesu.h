@@ -3,8 +3,15 @@
  * A slice is a pointer and a number of words or bytes; a pointer of an empty slice must not be null. Slices must not overlap. Every function reads and
  * writes only the slices that it is lent. `lines` and `room` are work words: any words before a call, all 0 after it. A refusal writes nothing else.
  *
- * Numbers of refusals are those of docs/DEFINITION.md, "Refusals". Where an answer is a uint64_t, a refusal's number stands in the high 32 bits, and
- * the value in the low ones.
+ * Where an answer is a uint64_t, a refusal's number stands in the high 32 bits, and the value in the low ones. The refusals, in checking order:
+ *   1  the words end before or after the last section does          8  a tree has more than 2,048 nodes
+ *   2  a section has too many records, or Settings not one          9  the uses of types run in a circle
+ *   3  a word has a value that its record does not allow           10  a lent slice is too short
+ *   4  a number, link or run points where it must not              11  a sheet's words are not the three sections of this file
+ *   5  two shapes are alike                                        12  a rank is not above that of a used type
+ *   6  an array shape has more than 65,536 elements                13  a line is not what the file gives
+ *   7  the asked type or variable is not in the file
+ * Too short work slices are refused before 8, 9 and 11 to 13.
  */
 #ifndef WIRKESU_H
 #define WIRKESU_H
@@ -50,7 +57,7 @@ uint64_t wirkesu_completed(const uint32_t *file, size_t file_words, uint32_t num
 uint64_t wirkesu_write_sheet(const uint32_t *file, size_t file_words, uint32_t *out, size_t out_words, uint32_t *lines, size_t lines_words,
                              uint32_t *room, size_t room_words);
 
-/* 0 for a sheet that passes, which is one that is right (docs/DEFINITION.md), or a refusal:
+/* 0 for a sheet that passes, which is one that is right (README.md, Demand 3), or a refusal:
    1 to 6, 10 where room is too short, 11, 12 or 13. */
 uint32_t wirkesu_check_sheet(const uint32_t *file, size_t file_words, const uint32_t *sheet, size_t sheet_words, uint32_t *room,
                              size_t room_words);
