@@ -1,0 +1,1 @@
+// What follows from the definition of start memory: only laws, in specs/.
