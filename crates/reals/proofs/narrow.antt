@@ -1,0 +1,4 @@
+pub mod Nearest
+pub mod Units
+pub mod Single
+pub mod Laws

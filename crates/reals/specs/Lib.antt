@@ -1,0 +1,2 @@
+-- the fields of 64 bits
+pub mod Fields
