@@ -1,0 +1,66 @@
+-- `words::shape_words` meets its contract. Assumes nothing.
+use borrow.Author.Needs.{needs}
+use Rattle.definition.specs.Records.{shapeOf}
+use Rattle.memory_layout.proofs.Putting.{joined}
+use Rattle.memory_layout.proofs.words.shape_words.Statement.{statement}
+use Rattle.memory_layout.proofs.words.shape_words.Tie as tie
+
+pub shape-words-spec : {M : Type 1} → statement M
+unfolding shapeOf
+shape-words-spec =
+    tie.close
+    (tie.spec
+    (λ c. search needs)
+    (λ c κs. search needs)
+    (λ c. search needs)
+    (λ c κs. search needs)
+    (λ c. search needs)
+    (λ c κs. search needs)
+    (λ c. search needs)
+    (λ c κs. search needs)
+    (λ c. search needs)
+    (λ c κs. search needs)
+    (λ c. search needs)
+    (λ c κs. search needs)
+    (λ c. search needs)
+    (λ c κs. search needs)
+    (λ c. search needs)
+    (λ c κs. search needs)
+    (λ c. search needs)
+    (λ c κs. search needs)
+    (λ c. search needs)
+    (λ c κs. search needs)
+    (λ c. search needs)
+    (λ c κs. search needs)
+    (λ c. search needs)
+    (λ c κs. search needs)
+    (λ c. search needs)
+    (λ c κs. search needs)
+    (λ c. search needs)
+    (λ c κs. search needs)
+    (λ c. search needs)
+    (λ c κs. search needs)
+    (λ c. search needs)
+    (λ c κs. search needs)
+    (λ c. search needs)
+    (λ c κs. search needs)
+    (λ c. search needs)
+    (λ c κs. search needs)
+    (λ c. search joined)
+    (λ c. search joined)
+    (λ c. search joined)
+    (λ c. search joined)
+    (λ c. search joined)
+    (λ c. search joined)
+    (λ c. search joined)
+    (λ c. search joined)
+    (λ c. search joined)
+    (λ c. search joined)
+    (λ c. search joined)
+    (λ c. search joined)
+    (λ c. search joined)
+    (λ c. search joined)
+    (λ c. search joined)
+    (λ c. search joined)
+    (λ c. search joined)
+    (λ c. search joined))
