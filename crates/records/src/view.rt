@@ -16,7 +16,7 @@ use definition::records::Expression;
 use definition::records::Initializer;
 use definition::records::Shape;
 
-fn shape_of(kind: u32, a: u32, b: u32, c: u32, d: u32) -> Shape
+pub fn shape_of(kind: u32, a: u32, b: u32, c: u32, d: u32) -> Shape
     ensures { λ r. ⌜ r ≡ shapeOf kind a b c d ⌝ }
 {
     match kind {

@@ -13,7 +13,7 @@ use records::words::word;
 const MOST_ELEMENTS: u64 = 65536;
 
 // How many elements dimension `first + j` counts; 0 where it ends before it starts.
-fn dimension_span(file: &[u32], source: &[usize], first: u32, j: u32) -> u64
+pub fn dimension_span(file: &[u32], source: &[usize], first: u32, j: u32) -> u64
     requires { ⌜ StartsOf (now file) (now source) ⌝ }
     ensures is { λ r. ⌜ r ≡ dimensionSpan (now (file .entry)) (first + j) ⌝ }
     ensures small { λ r. ⌜ r ≤ 2 ^ 32 ⌝ }

@@ -1,0 +1,2 @@
+-- nodes of the code as cells of the definition
+pub mod Cell
