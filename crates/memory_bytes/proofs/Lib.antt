@@ -1,0 +1,4 @@
+pub mod Numbering
+pub mod Spelling
+pub mod Standing
+pub mod Writing

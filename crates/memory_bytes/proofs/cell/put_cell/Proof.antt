@@ -1,0 +1,52 @@
+-- `cell::put_cell` meets its contract. Assumes nothing.
+use Rattle.memory_bytes.proofs.Standing.{standing}
+use Rattle.memory_bytes.proofs.cell.put_cell.Statement.{statement}
+use Rattle.memory_bytes.proofs.cell.put_cell.Tie as tie
+
+pub put-cell-spec : {M : Type 1} → statement M
+put-cell-spec =
+    tie.close
+    (tie.spec
+    (λ c κs. search standing)
+    (λ c. search standing)
+    (λ c. search standing)
+    (λ c κs. search standing)
+    (λ c. search standing)
+    (λ c. search standing)
+    (λ c κs. search standing)
+    (λ c. search standing)
+    (λ c κs. search standing)
+    (λ c κs. search standing)
+    (λ c. search standing)
+    (λ c κs. search standing)
+    (λ c κs. search standing)
+    (λ c κs. search standing)
+    (λ c. search standing)
+    (λ c κs. search standing)
+    (λ c. search standing)
+    (λ c κs. search standing)
+    (λ c κs. search standing)
+    (λ c κs. search standing)
+    (λ c. search standing)
+    (λ c κs. search standing)
+    (λ c. search standing)
+    (λ c κs. search standing)
+    (λ c. search standing)
+    (λ c κs. search standing)
+    (λ c. search standing)
+    (λ c. search standing)
+    (λ c. search standing)
+    (λ c. search standing)
+    (λ c. search standing)
+    (λ c. search standing)
+    (λ c. search standing)
+    (λ c. search standing)
+    (λ c. search standing)
+    (λ c. search standing)
+    (λ c. search standing)
+    (λ c. search standing)
+    (λ c. search standing)
+    (λ c. search standing)
+    (λ c. search standing)
+    (λ c. search standing)
+    (λ c. search standing))

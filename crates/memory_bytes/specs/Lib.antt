@@ -1,0 +1,2 @@
+-- numbers below 0 as bytes
+pub mod Flipped
