@@ -18,6 +18,9 @@ use Rattle.definition.specs.declared.answers.CheckAnswer.{CheckAnswer}
 use Rattle.definition.specs.declared.answers.CheckAnswer.the-variants as checking
 use Rattle.definition.specs.Base.{choose}
 use Rattle.definition.specs.Accept.{verdict}
+use Rattle.memory_definition.specs.declared.answer.MemoryAnswer.{MemoryAnswer}
+use Rattle.memory_definition.specs.declared.answer.MemoryAnswer.the-variants as memory
+use Rattle.memory_definition.specs.Answers.{memorySays, memoryCode}
 use Rattle.definition.specs.Answers.{Says, refuses, says, acceptanceSays, wordsSay, treeSays, sheetSays, checkSays, passCode, packed, valueCode, acceptAnswer}
 
 -- ---- code.rt: a law for each return
@@ -65,12 +68,27 @@ pub check-refused : {a : CheckAnswer} {n : ℕ} → a ≡ checking.Refused n →
 unfolding passCode checkSays
 check-refused e = rw e
 
+pub memory-counted : {a : MemoryAnswer} {n : ℕ} → a ≡ memory.Written n → n ≡ memoryCode (memorySays a)
+unfolding memoryCode packed memorySays
+memory-counted e = rw e
+
+pub memory-none : {a : MemoryAnswer} → a ≡ memory.None → 4294967295 ≡ memoryCode (memorySays a)
+unfolding memoryCode memorySays
+memory-none e = rw e
+
+pub memory-refused : {a : MemoryAnswer} {n : ℕ} → a ≡ memory.Refused n → {r : ℕ} → r ≡ n * 2 ^ 32 → r ≡ memoryCode (memorySays a)
+unfolding memoryCode memorySays
+memory-refused e h = rw e h
+
 -- ---- the number of an answer is that of what it says
 pub passes-so : {s t : Says} {r : ℕ} → r ≡ passCode s → s ≡ t → r ≡ passCode t
 passes-so e h = rw (← h) e
 
 pub says-so : {s t : Says} {r : ℕ} → r ≡ valueCode s → s ≡ t → r ≡ valueCode t
 says-so e h = rw (← h) e
+
+pub memory-so : {s t : Says} {r : ℕ} → r ≡ memoryCode s → s ≡ t → r ≡ memoryCode t
+memory-so e h = rw (← h) e
 
 -- ---- a file's refusal
 pub verdict-code : (f : List ℕ) {r : ℕ} → r ≡ passCode (acceptAnswer f) → r ≡ verdict f
@@ -81,6 +99,6 @@ verdict-code f e = e ∙ go (eqb (verdict f) 0) refl
     go true q = sym (eqb-true (verdict f) 0 q)
     go false q = refl
 
-pub ruleset codes = (needs, accepted-code, refused-code, words-counted, words-refused, tree-counted, tree-none, tree-refused, sheet-counted, sheet-refused, check-passes, check-refused)
+pub ruleset codes = (needs, accepted-code, refused-code, words-counted, words-refused, tree-counted, tree-none, tree-refused, sheet-counted, sheet-refused, check-passes, check-refused, memory-counted, memory-none, memory-refused)
 
-pub ruleset numbers = (needs, passes-so, says-so)
+pub ruleset numbers = (needs, passes-so, says-so, memory-so)

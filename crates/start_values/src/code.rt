@@ -2,6 +2,7 @@
 ghost use mathlib.Core.Path.{_≡_};
 ghost use Prim.Native.Nat.{_*_, _^_};
 ghost use Rattle.definition.specs.Answers.{acceptanceSays, wordsSay, treeSays, completedSays, sheetSays, checkSays, passCode, valueCode};
+ghost use Rattle.memory_definition.specs.Answers.{memorySays, memoryCode};
 ghost use Rattle.start_values.specs.Counted.{Counted};
 use definition::answers::Acceptance;
 use definition::answers::CheckAnswer;
@@ -9,6 +10,7 @@ use definition::answers::CompletedAnswer;
 use definition::answers::SheetAnswer;
 use definition::answers::TreeAnswer;
 use definition::answers::WorkWords;
+use memory_definition::answer::MemoryAnswer;
 
 pub fn acceptance_code(answer: Acceptance) -> u32
     ensures { λ r. ⌜ r ≡ passCode (acceptanceSays answer) ⌝ }
@@ -71,5 +73,16 @@ pub fn check_code(answer: CheckAnswer) -> u32
     match answer {
         CheckAnswer::Passes => 0,
         CheckAnswer::Refused(n) => n,
+    }
+}
+
+// A structure without fields has 0 bytes, so none is a number of its own.
+pub fn memory_code(answer: MemoryAnswer) -> u64
+    ensures { λ r. ⌜ r ≡ memoryCode (memorySays answer) ⌝ }
+{
+    match answer {
+        MemoryAnswer::Written(bytes) => bytes as u64,
+        MemoryAnswer::None => 4294967295,
+        MemoryAnswer::Refused(n) => refusal_code(n),
     }
 }

@@ -10,6 +10,7 @@ use acceptance::work::room_words;
 pub mod code;
 pub mod convert;
 pub mod sheets;
+pub mod start_memory;
 pub mod trees;
 
 // 0 for an accepted file, or its first refusal of 1 to 6.
