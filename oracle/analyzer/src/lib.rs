@@ -50,3 +50,20 @@ pub fn answer(file: File) -> Result<Answers, Huge> {
     answers.circles = context.types().circles();
     Ok(answers)
 }
+
+/// For each variable with a value the type of the place of each of its nodes,
+/// as text; none for a node without a place.
+pub fn places(file: File) -> Vec<Option<Vec<Option<String>>>> {
+    let syntax = Syntax::of(file);
+    let context = SemanticContext::of(TypeEnvironment::of(file), syntax.library());
+    let mut questions = Questions::about(&context);
+    let variables = (0..file.count(VARIABLES) as u32).map(|number| syntax.variable(number));
+    variables.map(|variable| questions.places(&variable)).collect()
+}
+
+/// The type of the words of a shape, as text. A name knows whether it is a
+/// copy, as those of a place are.
+pub fn shape_text(file: File, shape: &[u32]) -> String {
+    let copy = shapes::of_words(file, shape).clone();
+    format!("{copy:?}")
+}

@@ -11,7 +11,11 @@ use crate::semantic_type::{ArrayDimension, ByteSized, SemanticStructField, Seman
 /// Shape `number`. A shape that others point at is read again for each, since
 /// a semantic type is a tree.
 pub fn semantic_type(file: File, number: usize) -> SemanticType {
-    let words = file.record(SHAPES, number);
+    of_words(file, file.record(SHAPES, number))
+}
+
+/// The words of a shape, which need not stand in the file.
+pub fn of_words(file: File, words: &[u32]) -> SemanticType {
     let shape = |number: u32| semantic_type(file, number as usize);
     let size = || byte_sized(words[1]);
     match words[0] {

@@ -2,6 +2,7 @@
 
 pub mod frames;
 pub mod layout;
+pub mod memory;
 pub mod records;
 pub mod refusals;
 pub mod sheet;

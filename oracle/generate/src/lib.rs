@@ -1,6 +1,7 @@
 //! Declaration files made at random. File `number` of the stream `seed`
 //! depends on these and the size only, and meets no refusal of document 01.
 
+pub mod bytes;
 mod constants;
 mod draft;
 pub mod exhibits;
@@ -28,6 +29,8 @@ pub enum Size {
     Medium,
     /// Up to the limits of the sections.
     Large,
+    /// As small, but made of what a variable's bytes depend on.
+    Memory,
 }
 
 impl Size {
@@ -37,6 +40,7 @@ impl Size {
             "small" => Some(Self::Small),
             "medium" => Some(Self::Medium),
             "large" => Some(Self::Large),
+            "memory" => Some(Self::Memory),
             _ => None,
         }
     }
@@ -50,10 +54,16 @@ const ITEM_RECORDS: usize = 400;
 pub fn file(seed: u64, number: u64, size: Size) -> Vec<u32> {
     let mut draft = Draft::new(Random::new(&[seed, number, size as u64]));
     let budget = budget(&mut draft.random, size);
-    let family = families::at(number);
-    (family.make)(&mut draft);
+    let first = match size {
+        Size::Memory => families::memory_at(number),
+        _ => families::at(number),
+    };
+    (first.make)(&mut draft);
     while draft.words() < budget && room_for_item(&draft) {
-        let family = families::ordinary(&mut draft.random);
+        let family = match size {
+            Size::Memory => families::memory(&mut draft.random),
+            _ => families::ordinary(&mut draft.random),
+        };
         (family.make)(&mut draft);
     }
     if draft.random.percent(15) {
@@ -85,7 +95,7 @@ pub fn families() -> usize {
 /// About how many words a file is to have.
 fn budget(random: &mut Random, size: Size) -> usize {
     let (least, greatest) = match size {
-        Size::Small => random.pick(&[(60, 100), (60, 150), (100, 180), (150, 300), (200, 330)]),
+        Size::Small | Size::Memory => random.pick(&[(60, 100), (60, 150), (100, 180), (150, 300), (200, 330)]),
         Size::Medium => random.pick(&[(400, 1000), (1000, 4000)]),
         Size::Large => random.pick(&[(4000, 12_000), (12_000, 60_000)]),
     };

@@ -29,6 +29,11 @@ fn file_when_large_then_accepted() {
 }
 
 #[test]
+fn file_when_memory_then_accepted() {
+    all_accepted(4, 3000, Size::Memory);
+}
+
+#[test]
 fn file_when_same_seed_and_number_then_same_words() {
     for number in 0..200 {
         let words = file(7, number, Size::Small);

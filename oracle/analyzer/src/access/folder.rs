@@ -30,6 +30,15 @@ impl<'a> Questions<'a> {
         self.fresh().resolver.declaration(variable)
     }
 
+    /// The type of the place of each node of the value that `variable` starts
+    /// with, as text.
+    pub(crate) fn places(&mut self, variable: &VarDecl) -> Option<Vec<Option<String>>> {
+        let resolver = &mut self.fresh().resolver;
+        let value = resolver.declaration(variable)?;
+        let places = resolver.places(variable, &value).into_iter();
+        Some(places.map(|place| place.map(|place| format!("{place:?}"))).collect())
+    }
+
     /// The completed initializer of `variable`, which must come from the file
     /// and be no copy; `None` if it is left as it is.
     pub(crate) fn completed(&mut self, variable: VarDecl) -> Option<InitialValueAssignmentKind> {

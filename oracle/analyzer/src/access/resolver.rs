@@ -3,9 +3,10 @@
 #[cfg(feature = "limited")]
 pub(crate) mod limit;
 
+use ironplc_dsl::common::VarDecl;
 use ironplc_dsl::type_id::TypeId;
 
-use super::{Resolver, TypeDefaults, Value};
+use super::{Place, Resolver, SemanticType, TypeDefaults, Value};
 
 impl Resolver<'_> {
     /// `Resolver::type_default`, which is private.
@@ -24,5 +25,35 @@ impl Resolver<'_> {
         #[cfg(feature = "limited")]
         limit::renew(|id| known.contains_key(id));
         assert!(self.resolving.is_empty() && self.defaults.len() == known.len());
+    }
+
+    /// The type of the place of each node of `value`, which `declaration`
+    /// starts with; none for a node without a place.
+    pub(crate) fn places(&self, declaration: &VarDecl, value: &Value) -> Vec<Option<SemanticType>> {
+        let mut places = Vec::new();
+        self.push_places(&mut places, self.declaration_place(declaration), value);
+        places
+    }
+
+    fn push_places(&self, places: &mut Vec<Option<SemanticType>>, place: Option<Place>, value: &Value) {
+        places.push(place.as_ref().map(|place| place.representation.clone()));
+        match value {
+            Value::Array(values) => {
+                let mut leaf = place;
+                while leaf.as_ref().is_some_and(|leaf| leaf.representation.is_array()) {
+                    leaf = leaf.and_then(|leaf| self.element_place(&leaf));
+                }
+                for value in values {
+                    self.push_places(places, leaf.clone(), value);
+                }
+            }
+            Value::Structure(fields) => {
+                for field in fields {
+                    let part = place.as_ref().and_then(|place| self.field_place(place, &field.name));
+                    self.push_places(places, part, &field.value);
+                }
+            }
+            _ => {}
+        }
     }
 }

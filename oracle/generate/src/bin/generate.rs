@@ -1,4 +1,4 @@
-//! `generate SEED COUNT [small|medium|large] [FIRST]` writes COUNT framed
+//! `generate SEED COUNT [small|medium|large|memory] [FIRST]` writes COUNT framed
 //! declaration files to standard output, from file FIRST (0) on.
 
 use files::{frames, verdict::verdict};
@@ -6,7 +6,7 @@ use generate::Size;
 use std::io::{BufWriter, Write};
 use std::process::ExitCode;
 
-const USAGE: &str = "usage: generate SEED COUNT [small|medium|large] [FIRST]";
+const USAGE: &str = "usage: generate SEED COUNT [small|medium|large|memory] [FIRST]";
 
 fn main() -> ExitCode {
     match run(&std::env::args().skip(1).collect::<Vec<_>>()) {

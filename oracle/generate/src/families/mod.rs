@@ -7,6 +7,7 @@ mod circles;
 mod corners;
 mod deep;
 mod limits;
+mod memory;
 mod ordinary;
 mod scalars;
 
@@ -123,6 +124,34 @@ const FAMILIES: &[Family] = &[
     family("near the limit", limits::near_limit, 5, 0),
 ];
 
+/// The families of files for start memory, each as often as its weight says.
+const MEMORY: &[Family] = &[
+    family("characters", memory::characters, 4, 4),
+    family("rounded reals", memory::rounded_reals, 4, 4),
+    family("widths", memory::widths, 4, 4),
+    family("bases of subranges", memory::bases_of_subranges, 5, 4),
+    family("members twice", memory::members_twice, 3, 2),
+    family("nulls", memory::nulls, 4, 3),
+    family("other lengths", memory::other_lengths, 3, 2),
+    family("other shapes", memory::other_shapes, 4, 2),
+    family("other strings", memory::other_strings, 3, 2),
+    family("images", memory::images, 6, 8),
+    family("empty structures", memory::empty_structures, 1, 1),
+    family("strings", scalars::strings, 3, 3),
+    family("string places", scalars::string_places, 2, 1),
+    family("enumerations alike", scalars::enumerations_alike, 3, 2),
+    family("references", scalars::references, 2, 2),
+    family("two fields of one name", aggregates::two_fields_of_one_name, 2, 1),
+    family("elements unlike the shape", aggregates::elements_unlike_shape, 2, 1),
+    family("elements that are arrays", corners::elements_that_are_arrays, 2, 0),
+    family("fields elsewhere", corners::fields_elsewhere, 2, 1),
+    family("arrays of arrays", aggregates::arrays_of_arrays, 3, 2),
+    family("structures through aliases", aggregates::structures_through_aliases, 3, 2),
+    family("blocks", blocks::blocks, 3, 3),
+    family("blocks that disagree", blocks::blocks_that_disagree, 3, 2),
+    family("aliases of blocks", blocks::aliases_of_blocks, 2, 1),
+];
+
 /// Shares no factor with the number of places.
 const STEP: u64 = 53;
 
@@ -142,6 +171,25 @@ pub fn at(number: u64) -> &'static Family {
         left -= family.first;
     }
     unreachable!("left is below the number of places")
+}
+
+/// The family that file `number` for start memory begins with.
+pub fn memory_at(number: u64) -> &'static Family {
+    let places = MEMORY.iter().map(|family| u64::from(family.first)).sum::<u64>();
+    let mut left = (number % places) as u32;
+    for family in MEMORY {
+        if left < family.first {
+            return family;
+        }
+        left -= family.first;
+    }
+    unreachable!("left is below the number of places")
+}
+
+/// A family for an item that follows in a file for start memory.
+pub fn memory(random: &mut Random) -> &'static Family {
+    let weights: Vec<u32> = MEMORY.iter().map(|family| family.later).collect();
+    &MEMORY[random.weighted(&weights)]
 }
 
 /// A family for an item that follows.
