@@ -10,8 +10,9 @@
  *   4  a number, link or run points where it must not              11  a sheet's words are not the three sections of this file
  *   5  two shapes are alike                                        12  a rank is not above that of a used type
  *   6  an array shape has more than 65,536 elements                13  a line is not what the file gives
- *   7  the asked type or variable is not in the file
- * Too short work slices are refused before 8, 9 and 11 to 13.
+ *   7  the asked type or variable is not in the file               14  a node that its place cannot hold, or bytes that no tree is written as
+ *                                                                  15  a character too wide
+ * Too short work slices are refused before 8, 9 and 11 to 15, too short slices for bytes, nodes and characters after 14 and 15.
  */
 #ifndef WIRKESU_H
 #define WIRKESU_H
@@ -61,6 +62,18 @@ uint64_t wirkesu_write_sheet(const uint32_t *file, size_t file_words, uint32_t *
    1 to 6, 10 where room is too short, 11, 12 or 13. */
 uint32_t wirkesu_check_sheet(const uint32_t *file, size_t file_words, const uint32_t *sheet, size_t sheet_words, uint32_t *room,
                              size_t room_words);
+
+/* How many bytes the start value of variable `variable` has in the controller's memory, which stand at the front of bytes; 4294967295 for none.
+   Refusals 1 to 7, 8 for too large, 14, 15, 10 where a slice is too short. */
+uint64_t wirkesu_write_memory(const uint32_t *file, size_t file_words, uint32_t variable, uint8_t *bytes, size_t bytes_count, uint32_t *lines,
+                              size_t lines_words, uint32_t *room, size_t room_words);
+
+/* How many nodes, of six words each, exactly these bytes are read as by the parts of that start value, or 0 for none. The nodes stand at the front of
+   nodes, nameless; the characters of all strings stand at the front of characters, where a string's low word is the place of its first one.
+   Refusals 1 to 7, 8 for too large, 14, 10 where a slice is too short. */
+uint64_t wirkesu_read_memory(const uint32_t *file, size_t file_words, uint32_t variable, const uint8_t *bytes, size_t bytes_count, uint32_t *nodes,
+                             size_t nodes_words, uint32_t *characters, size_t characters_words, uint32_t *lines, size_t lines_words,
+                             uint32_t *room, size_t room_words);
 
 #ifdef __cplusplus
 }

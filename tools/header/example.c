@@ -27,6 +27,21 @@ int main(void) {
     MUST(wirkesu_check_sheet(file, WORDS(file), sheet, WORDS(sheet), r, room) == 0);
     MUST(wirkesu_check_sheet(file, WORDS(file), sheet, WORDS(sheet) - 1, r, room) == 11);
     MUST(wirkesu_write_sheet(file, WORDS(file), out, WORDS(sheet) - 1, l, lines, r, room) == 10ull << 32);
+    uint8_t bytes[] = {9, 9};
+    MUST(wirkesu_write_memory(file, WORDS(file), 0, bytes, 2, l, lines, r, room) == 1);
+    MUST(bytes[0] == 0 && bytes[1] == 9);
+    MUST(wirkesu_write_memory(file, WORDS(file), 0, bytes, 0, l, lines, r, room) == 10ull << 32);
+    MUST(wirkesu_write_memory(file, WORDS(file), 1, bytes, 2, l, lines, r, room) == 7ull << 32);
+    static const uint32_t node[] = {0, 0, 0, 1, 0, 0};
+    uint32_t characters[1] = {9};
+    bytes[0] = 1;
+    MUST(wirkesu_read_memory(file, WORDS(file), 0, bytes, 1, out, 6, characters, 1, l, lines, r, room) == 1);
+    for (size_t i = 0; i < WORDS(node); i++) MUST(out[i] == node[i]);
+    MUST(characters[0] == 9);
+    MUST(wirkesu_read_memory(file, WORDS(file), 0, bytes, 1, out, 5, characters, 1, l, lines, r, room) == 10ull << 32);
+    MUST(wirkesu_read_memory(file, WORDS(file), 0, bytes, 2, out, 6, characters, 1, l, lines, r, room) == 14ull << 32);
+    bytes[0] = 2;
+    MUST(wirkesu_read_memory(file, WORDS(file), 0, bytes, 1, out, 6, characters, 1, l, lines, r, room) == 14ull << 32);
     puts("every answer is right");
     return 0;
 }

@@ -3,6 +3,7 @@
 
 mod differences;
 mod library;
+mod memory;
 mod names;
 mod places;
 mod rows;
@@ -16,7 +17,7 @@ use std::io::{self, Write};
 use std::process::ExitCode;
 
 use files::text::assemble;
-use library::{check_sheet, write_sheet, Refused};
+use library::{accept, check_sheet, write_sheet, Refused};
 use names::Names;
 use rows::{rows, Stop};
 
@@ -25,7 +26,10 @@ usage: start-values sheet FILE [-o SHEET]    the start sheet, as words in little
        start-values check FILE SHEET         whether a sheet is the file's
        start-values rows FILE                a row for every leaf of every variable
        start-values diff FILE FILE           the rows that differ
-       --names NAMES    in rows and diff: name n is on line n of NAMES
+       start-values memory FILE VARIABLE     the bytes that a variable starts with; VARIABLE is its number or name
+       --hex            in memory: a row for every leaf, with where its bytes begin
+       --read BYTES     in memory: a row for every leaf, read from the bytes of BYTES
+       --names NAMES    in rows, diff and memory: name n is on line n of NAMES
        --text           files are in the text form of vectors/examples";
 
 /// What the words of a command line say.
@@ -34,6 +38,8 @@ struct Options {
     operands: Vec<String>,
     out: Option<String>,
     names: Option<String>,
+    bytes: Option<String>,
+    is_hex: bool,
     is_text: bool,
 }
 
@@ -45,6 +51,8 @@ fn options(words: impl Iterator<Item = String>) -> Result<Options, String> {
         match word.as_str() {
             "-o" => options.out = Some(next()?),
             "--names" => options.names = Some(next()?),
+            "--read" => options.bytes = Some(next()?),
+            "--hex" => options.is_hex = true,
             "--text" => options.is_text = true,
             other if other.starts_with('-') => return Err(format!("there is no option {other}")),
             _ => options.operands.push(word),
@@ -93,13 +101,37 @@ fn print(lines: impl Iterator<Item = String>) -> Result<(), Stop> {
     Ok(())
 }
 
+/// Bytes to the file that -o names, or to standard output.
+fn put(bytes: &[u8], options: &Options) -> Result<(), Stop> {
+    match &options.out {
+        Some(path) => fs::write(path, bytes).map_err(|error| format!("{path}: {error}"))?,
+        None => io::stdout().write_all(bytes).map_err(|error| error.to_string())?,
+    }
+    Ok(())
+}
+
 fn sheet_command(file: &str, options: &Options) -> Result<bool, Stop> {
     let sheet = write_sheet(&declarations(file, options)?)?;
     let bytes: Vec<u8> = sheet.iter().flat_map(|word| word.to_le_bytes()).collect();
-    match &options.out {
-        Some(path) => fs::write(path, bytes).map_err(|error| format!("{path}: {error}"))?,
-        None => io::stdout().write_all(&bytes).map_err(|error| error.to_string())?,
-    }
+    put(&bytes, options)?;
+    Ok(true)
+}
+
+fn memory_command(file: &str, variable: &str, options: &Options) -> Result<bool, Stop> {
+    let words = declarations(file, options)?;
+    accept(&words)?;
+    let names = names(options)?;
+    let variable = memory::number(&words, &names, variable)?;
+    let (heading, rows) = match (&options.bytes, options.is_hex) {
+        (Some(path), false) => (memory::READ_HEADING.join("\t"), memory::read_rows(&words, &names, variable, &read(path)?)?),
+        (None, true) => (memory::BYTES_HEADING.join("\t"), memory::bytes_rows(&words, &names, variable)?),
+        (None, false) => {
+            put(&memory::bytes(&words, variable)?, options)?;
+            return Ok(true);
+        }
+        _ => return Err(Stop::Misused("--hex and --read exclude each other".to_string())),
+    };
+    print([heading].into_iter().chain(rows))?;
     Ok(true)
 }
 
@@ -139,11 +171,12 @@ fn run(arguments: Vec<String>) -> Result<bool, Stop> {
         ["check", file, sheet] => check_command(file, sheet, &options),
         ["rows", file] => rows_command(file, &options),
         ["diff", first, second] => diff_command(first, second, &options),
+        ["memory", file, variable] => memory_command(file, variable, &options),
         _ => Err(Stop::Misused(USAGE.to_string())),
     }
 }
 
-/// What a refusal says, as document 01 has it.
+/// What a refusal says, as documents 01 and 02 have it.
 fn meaning(number: u32) -> &'static str {
     match number {
         1 => "the words end before or after the last section does",
@@ -152,10 +185,14 @@ fn meaning(number: u32) -> &'static str {
         4 => "a number, link or run points where it must not",
         5 => "two shapes are alike",
         6 => "an array shape has more than 65,536 elements",
+        7 => "the asked variable is not in the file",
+        8 => "a tree has more than 2,048 nodes",
         9 => "the uses of types run in a circle",
         11 => "the sheet's words are not the three sections of this file",
         12 => "a rank is not above that of a used type",
         13 => "a line is not what the file gives",
+        14 => "a node that its place cannot hold, or bytes that no tree is written as",
+        15 => "a character too wide",
         _ => "a slice is too short",
     }
 }
@@ -166,6 +203,10 @@ fn main() -> ExitCode {
         Ok(false) => ExitCode::from(1),
         Err(Stop::Refused(Refused(number))) => {
             eprintln!("refused {number}: {}", meaning(number));
+            ExitCode::from(1)
+        }
+        Err(Stop::None) => {
+            eprintln!("none");
             ExitCode::from(1)
         }
         Err(Stop::Misused(message)) => {

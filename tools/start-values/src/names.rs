@@ -18,6 +18,12 @@ impl Names {
         }
     }
 
+    /// The name that is called this, where names are listed.
+    pub fn number(&self, called: &str) -> Option<u32> {
+        let at = self.lines.as_ref()?.iter().position(|line| line == called)?;
+        Some(at as u32 + 1)
+    }
+
     /// What name `number` is called, or that it isn't listed.
     pub fn name(&self, number: u32) -> Result<String, String> {
         let Some(lines) = &self.lines else {

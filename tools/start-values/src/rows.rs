@@ -1,6 +1,6 @@
 //! A row for every leaf of every variable.
 
-use files::layout::{File, VARIABLES};
+use files::layout::{File, CHARACTERS, VARIABLES};
 
 use crate::library::{check_sheet, write_sheet, Refused};
 use crate::names::Names;
@@ -35,6 +35,8 @@ impl Row {
 #[derive(Debug)]
 pub enum Stop {
     Refused(Refused),
+    /// The variable starts with nothing.
+    None,
     Misused(String),
 }
 
@@ -52,7 +54,8 @@ impl From<String> for Stop {
 
 /// The rows of one variable.
 struct Walk<'a> {
-    file: File<'a>,
+    /// What the runs of strings are of.
+    characters: &'a [u32],
     places: Places<'a>,
     names: &'a Names,
     variable: String,
@@ -94,20 +97,21 @@ impl Walk<'_> {
             variable: self.variable.clone(),
             path,
             kind: kind(node).unwrap_or_default().to_string(),
-            value: value(&self.file, self.names, node)?,
+            value: value(self.characters, self.names, node)?,
             state: "value",
         });
         Ok(())
     }
+}
 
-    fn without_value(&mut self, state: &'static str) {
-        self.rows.push(Row {
-            variable: self.variable.clone(),
-            path: self.variable.clone(),
-            kind: String::new(),
-            value: String::new(),
-            state,
-        });
+/// The row of a variable without a value.
+fn without_value(variable: String, state: &'static str) -> Row {
+    Row {
+        path: variable.clone(),
+        variable,
+        kind: String::new(),
+        value: String::new(),
+        state,
     }
 }
 
@@ -119,29 +123,39 @@ fn called(file: &File, names: &Names, number: u32) -> Result<String, String> {
     }
 }
 
+/// The characters of a file.
+pub fn characters(file: &File) -> Vec<u32> {
+    (0..file.count(CHARACTERS)).map(|number| file.record(CHARACTERS, number)[0]).collect()
+}
+
+/// The rows of a variable's tree, a row for each leaf.
+pub fn tree_rows(file: File, names: &Names, number: u32, tree: &[Node], characters: &[u32]) -> Result<Vec<Row>, Stop> {
+    let mut walk = Walk {
+        characters,
+        places: Places::of(file),
+        names,
+        variable: called(&file, names, number)?,
+        rows: Vec::new(),
+    };
+    let place = walk.places.of_variable(number);
+    let path = walk.variable.clone();
+    walk.tree(&mut tree.iter(), place, path)?;
+    Ok(walk.rows)
+}
+
 /// The rows of a file, from a sheet that the proved check has passed.
 pub fn rows(words: &[u32], names: &Names) -> Result<Vec<Row>, Stop> {
     let sheet = write_sheet(words)?;
     check_sheet(words, &sheet)?;
     let file = File::open(words).expect("the file is accepted");
-    let mut walk = Walk {
-        file,
-        places: Places::of(file),
-        names,
-        variable: String::new(),
-        rows: Vec::new(),
-    };
-    for (number, start) in starts(&file, &sheet).into_iter().enumerate() {
-        walk.variable = called(&file, names, number as u32)?;
+    let characters = characters(&file);
+    let mut rows = Vec::new();
+    for (number, start) in (0..).zip(starts(&file, &sheet)) {
         match start {
-            Start::Tree(nodes) => {
-                let place = walk.places.of_variable(number as u32);
-                let path = walk.variable.clone();
-                walk.tree(&mut nodes.iter(), place, path)?;
-            }
-            Start::None => walk.without_value("none"),
-            Start::TooLarge => walk.without_value("too large"),
+            Start::Tree(nodes) => rows.extend(tree_rows(file, names, number, &nodes, &characters)?),
+            Start::None => rows.push(without_value(called(&file, names, number)?, "none")),
+            Start::TooLarge => rows.push(without_value(called(&file, names, number)?, "too large")),
         }
     }
-    Ok(walk.rows)
+    Ok(rows)
 }

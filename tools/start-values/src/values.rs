@@ -1,7 +1,5 @@
 //! Leaf nodes as Structured Text writes their values (IEC 61131-3, 6.3).
 
-use files::layout::{File, CHARACTERS};
-
 use crate::names::Names;
 use crate::times;
 
@@ -28,8 +26,8 @@ pub fn kind(node: &Node) -> Option<&'static str> {
     kinds.get(node[1] as usize).copied()
 }
 
-/// The value of a leaf.
-pub fn value(file: &File, names: &Names, node: &Node) -> Result<String, String> {
+/// The value of a leaf; a string's run is one of `characters`.
+pub fn value(characters: &[u32], names: &Names, node: &Node) -> Result<String, String> {
     let [_, kind, sign, low, high, width] = *node;
     let size = u64::from(high) << 32 | u64::from(low);
     let signed = if sign == 1 { -i128::from(size) } else { i128::from(size) };
@@ -43,7 +41,7 @@ pub fn value(file: &File, names: &Names, node: &Node) -> Result<String, String> 
         5 => times::time_of_day(size, is_long),
         6 => times::date(size, is_long),
         7 => times::date_and_time(size, is_long),
-        8 => string(&characters(file, low, high), is_long),
+        8 => string(&characters[low as usize..][..high as usize], is_long),
         9 => enumerated(names, low, high)?,
         10 => "NULL".to_string(),
         11 => format!("reference in expression {low}"),
@@ -70,12 +68,6 @@ fn enumerated(names: &Names, value: u32, qualifier: u32) -> Result<String, Strin
         0 => Ok(value),
         qualifier => Ok(format!("{}#{value}", names.name(qualifier)?)),
     }
-}
-
-/// The characters of a run, each a number.
-fn characters(file: &File, first: u32, count: u32) -> Vec<u32> {
-    let places = (0..count as usize).map(|place| first as usize + place);
-    places.map(|place| file.record(CHARACTERS, place)[0]).collect()
 }
 
 /// A string in single quotes, a wide one in double quotes. A dollar stands

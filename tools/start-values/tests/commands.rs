@@ -1,5 +1,6 @@
 //! The command as people use it: what it prints and its exit status. The rows
-//! of examples/carousel.rows were written by hand from document 01.
+//! of examples/carousel.rows were written by hand from document 01, those of
+//! examples/carousel.memory and the bytes here from document 02.
 
 use std::fs;
 use std::path::{Path, PathBuf};
@@ -89,6 +90,97 @@ fn diff_when_the_scene_differs_then_side_by_side() {
     assert_eq!(said(&["diff", "--text", &example("carousel.txt"), &example("carousel.txt")]), (0, String::new(), String::new()));
 }
 
+/// The carousel's variable of this name or number, with these options.
+fn memory<'a>(arguments: &[&'a str]) -> (i32, String, String) {
+    let (file, names) = (example("carousel.txt"), example("carousel.names"));
+    said(&[&["memory", "--text", &file, "--names", &names], arguments].concat())
+}
+
+/// A variable's bytes.
+fn memory_bytes(variable: &str) -> Vec<u8> {
+    let output = run(&["memory", "--text", &example("carousel.txt"), "--names", &example("carousel.names"), variable]);
+    assert_eq!(output.status.code(), Some(0));
+    output.stdout
+}
+
+#[test]
+fn memory_when_the_carousel_then_as_written_by_hand() {
+    let rows = fs::read_to_string(example("carousel.memory")).expect("it is there");
+    assert_eq!(memory(&["--hex", "carousel"]), (0, rows.clone(), String::new()));
+    assert_eq!(memory(&["--hex", "2"]), (0, rows.clone(), String::new()));
+    let columns = rows.lines().skip(1).map(|row| row.split('\t').nth(1).expect("the bytes"));
+    let bytes: Vec<u8> = columns.flat_map(|bytes| bytes.split(' ')).map(|byte| u8::from_str_radix(byte, 16).expect("a byte")).collect();
+    assert_eq!(memory_bytes("carousel"), bytes);
+    let out = written("carousel.bytes", b"");
+    assert_eq!(memory(&["carousel", "-o", &out]), (0, String::new(), String::new()));
+    assert_eq!(fs::read(&out).expect("it was written"), bytes);
+}
+
+#[test]
+fn memory_when_leaves_of_each_kind_then_their_bytes() {
+    assert_eq!(memory_bytes("offsets"), [5, 0, 7, 0, 7, 0, 0, 0]);
+    assert_eq!(memory_bytes("grid"), [0xFC, 0xFF, 0xFC, 0xFF, 0xFC, 0xFF, 0, 0]);
+    assert_eq!(memory_bytes("opened"), 1_767_312_000u32.to_le_bytes());
+    assert_eq!(memory_bytes("alarm"), 1_767_323_045u32.to_le_bytes());
+    assert_eq!(memory_bytes("closes"), 45_296_789u32.to_le_bytes());
+    assert_eq!(memory_bytes("mask"), [0xFF]);
+    assert_eq!(memory_bytes("target"), [0; 4]);
+    let title = memory_bytes("title");
+    let front = [254, 0, 7, 0, 0x47, 0, 0x72, 0, 0xF6, 0, 0xDF, 0, 0x65, 0, 0x20, 0, 0x22, 0];
+    assert_eq!((title.len(), &title[..18]), (512, &front[..]));
+    assert!(title[18..].iter().all(|byte| *byte == 0));
+}
+
+#[test]
+fn memory_when_read_then_its_rows() {
+    let mut bytes = memory_bytes("carousel");
+    // night, a level of 100, a caption 'Hi'.
+    bytes[0] = 0;
+    bytes[3] = 100;
+    bytes[7..14].copy_from_slice(&[2, 0, 0x48, 0x69, 0, 0, 0]);
+    let path = written("read.bytes", &bytes);
+    let (status, out, error) = memory(&["carousel", "--read", &path]);
+    assert_eq!((status, error.as_str()), (0, ""));
+    let rows: Vec<&str> = out.lines().collect();
+    let first = [
+        "path\tkind\tvalue",
+        "carousel.scene\tenumerated\tnight",
+        "carousel.lamps[-1].on\tboolean\tTRUE",
+        "carousel.lamps[-1].level\tinteger\t100",
+        "carousel.lamps[-1].caption\tstring\t'Hi'",
+    ];
+    assert_eq!(rows[..5], first);
+    assert_eq!(rows[7], "carousel.lamps[0].caption\tstring\t'L$'1$$2'");
+    assert_eq!(rows[11..], ["carousel.pause\tduration\tT#1s500ms", "carousel.drive.speed\treal\t1.5", "carousel.drive.position\tinteger\t-3"]);
+    // A bit string is read as an integer, a reference to a variable as a null.
+    let mask = written("mask.bytes", &[7]);
+    assert_eq!(memory(&["mask", "--read", &mask]).1, "path\tkind\tvalue\nmask\tinteger\t7\n");
+    let follows = written("follows.bytes", &[0; 4]);
+    assert_eq!(memory(&["follows", "--read", &follows]).1, "path\tkind\tvalue\nfollows\tnull\tNULL\n");
+}
+
+#[test]
+fn memory_when_refused_then_one_line_and_its_status() {
+    let unheld = "refused 14: a node that its place cannot hold, or bytes that no tree is written as\n";
+    for variable in ["sums", "follows"] {
+        assert_eq!(memory(&[variable]), (1, String::new(), unheld.to_string()));
+        assert_eq!(memory(&["--hex", variable]), (1, String::new(), unheld.to_string()));
+    }
+    let above = written("level.bytes", &[&memory_bytes("carousel")[..3], &[101], &memory_bytes("carousel")[4..]].concat());
+    assert_eq!(memory(&["carousel", "--read", &above]), (1, String::new(), unheld.to_string()));
+    let long = written("long.bytes", &[&memory_bytes("mask")[..], &[0]].concat());
+    assert_eq!(memory(&["mask", "--read", &long]), (1, String::new(), unheld.to_string()));
+    assert_eq!(memory(&["broken"]), (1, String::new(), "none\n".to_string()));
+    assert_eq!(memory(&["many"]).2, "refused 8: a tree has more than 2,048 nodes\n");
+    assert_eq!(memory(&["99"]).2, "refused 7: the asked variable is not in the file\n");
+    assert_eq!(memory(&["night"]).2, "refused 7: the asked variable is not in the file\n");
+    let strings = Path::new(env!("CARGO_MANIFEST_DIR")).join("../../vectors/memory/strings.txt");
+    let strings = strings.to_str().expect("a path in UTF-8");
+    assert_eq!(said(&["memory", "--text", strings, "3"]), (1, String::new(), "refused 15: a character too wide\n".to_string()));
+    assert_eq!(memory(&["lamp"]), (2, String::new(), "lamp is not among the names\n".to_string()));
+    assert_eq!(memory(&["mask", "--hex", "--read", &long]).2, "--hex and --read exclude each other\n");
+}
+
 #[test]
 fn bad_input_when_any_then_one_line_and_its_status() {
     let missing = said(&["rows", "no such file"]);
@@ -107,7 +199,7 @@ fn bad_input_when_any_then_one_line_and_its_status() {
 
 #[test]
 fn usage_when_misused_then_two() {
-    for arguments in [&[][..], &["rows"], &["rows", "a", "b"], &["check", "a"], &["row", "a"]] {
+    for arguments in [&[][..], &["rows"], &["rows", "a", "b"], &["check", "a"], &["row", "a"], &["memory", "a"]] {
         let (status, out, error) = said(arguments);
         assert_eq!((status, out.as_str()), (2, ""));
         assert!(error.starts_with("usage: start-values sheet FILE"), "{error}");

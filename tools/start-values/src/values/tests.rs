@@ -1,16 +1,8 @@
 use super::*;
-use files::text::assemble;
-
-/// A file whose characters are those of `text`.
-fn file_with(text: &str) -> Vec<u32> {
-    let characters: Vec<String> = text.chars().map(|character| (character as u32).to_string()).collect();
-    assemble(&format!("settings\n254\ncharacters\n{}\n", characters.join("\n"))).expect("it is a file")
-}
 
 fn shown(node: Node) -> String {
-    let words = file_with("A'B$C\n\u{e4}\u{1F3A0}\"");
-    let file = File::open(&words).expect("it is a file");
-    value(&file, &Names::of("red\ngreen\nColour"), &node).expect("every name is listed")
+    let characters: Vec<u32> = "A'B$C\n\u{e4}\u{1F3A0}\"".chars().map(|character| character as u32).collect();
+    value(&characters, &Names::of("red\ngreen\nColour"), &node).expect("every name is listed")
 }
 
 #[test]
@@ -86,9 +78,7 @@ fn value_when_null_a_reference_or_an_expression_then_its_number() {
 
 #[test]
 fn value_when_a_name_is_not_listed_then_said() {
-    let words = file_with("");
-    let file = File::open(&words).expect("it is a file");
-    let said = value(&file, &Names::of("red"), &[0, 9, 0, 2, 0, 0]);
+    let said = value(&[], &Names::of("red"), &[0, 9, 0, 2, 0, 0]);
     assert_eq!(said, Err("name 2 is not among the 1 lines of the names".to_string()));
-    assert_eq!(value(&file, &Names::numbers(), &[0, 9, 0, 2, 0, 0]), Ok("2".to_string()));
+    assert_eq!(value(&[], &Names::numbers(), &[0, 9, 0, 2, 0, 0]), Ok("2".to_string()));
 }
