@@ -7,10 +7,19 @@
 //! --tool=callgrind` the inclusive instructions of `library_variable`,
 //! `rust_variable`, `library_sheet`, `rust_whole` and `library_check` are what
 //! each takes; without it the least time of several calls is printed.
+//!
+//! `cost TIMES memory STATIONS`, `cost TIMES strings COUNT`: start memory of one
+//! variable, written and read; `library_write`, `library_read`, `plain_write`
+//! and `plain_read` under callgrind.
 
 #[path = "../../trees/src/library.rs"]
 mod library;
+// Its work words are asked for in `library`.
+#[allow(dead_code)]
+#[path = "../../memory/src/library.rs"]
+mod bytes;
 mod extremes;
+mod memory;
 #[path = "../../sheets/src/library.rs"]
 mod sheets;
 
@@ -113,12 +122,25 @@ fn measure_sheet(words: &[u32], times: usize) {
 /// The file of a family that is named with its numbers.
 fn file(family: &str, numbers: &[u32]) -> Option<Vec<u32>> {
     match (family, numbers) {
-        ("exhibit", [stations]) => Some(exhibit(*stations)),
+        ("exhibit" | "memory", [stations]) => Some(exhibit(*stations)),
+        ("strings", [count]) => Some(memory::strings(*count)),
         ("largest", [variables]) => Some(extremes::largest(*variables)),
         ("uses", [types]) => Some(extremes::uses(*types)),
         ("wanting", [types]) => Some(extremes::wanting(*types)),
         ("chain", [blocks, pairs, fields]) => Some(extremes::chain(*blocks, *pairs, *fields)),
         _ => None,
+    }
+}
+
+fn measure_family(family: &str, words: &[u32], times: usize) {
+    let variables = File::open(words).expect("it is a file").count(VARIABLES) as u32;
+    match family {
+        "memory" => memory::measure(words, variables - 5, times),
+        "strings" => memory::measure(words, 0, times),
+        _ => {
+            measure(words, times);
+            measure_sheet(words, times);
+        }
     }
 }
 
@@ -128,10 +150,9 @@ fn main() {
     let numbers: Vec<u32> = arguments.iter().filter_map(|word| word.parse().ok()).collect();
     let words = numbers.split_first().and_then(|(times, sizes)| Some((*times, file(family, sizes)?)));
     let Some((times, words)) = words else {
-        eprintln!("usage: cost TIMES exhibit STATIONS | wanting TYPES | largest VARIABLES | uses TYPES | chain BLOCKS ENTRIES FIELDS");
+        eprintln!("usage: cost TIMES exhibit STATIONS | wanting TYPES | largest VARIABLES | uses TYPES | chain BLOCKS ENTRIES FIELDS | memory STATIONS | strings COUNT");
         exit(2);
     };
     assert_eq!(verdict(&words), 0, "refused");
-    measure(&words, times as usize);
-    measure_sheet(&words, times as usize);
+    measure_family(family, &words, times as usize);
 }

@@ -1,15 +1,21 @@
 //! `stack`: how many bytes of stack the library takes for what nests as deep
 //! as a file allows. For each kind of nesting the least stack is searched for
-//! with which a child of this program answers.
+//! with which a child of this program answers. `stack memory`: the same for a
+//! variable's tree, its start memory written and its start memory read.
 
 #[path = "../library.rs"]
 mod library;
+// Its work words are asked for in `library`.
+#[allow(dead_code)]
+#[path = "../../../memory/src/library.rs"]
+mod memory;
 
 use std::env;
 use std::process::{exit, Command, Stdio};
 use std::thread;
 
 use library::{ask, work_words, What};
+use memory::{read_memory, write_memory};
 
 /// No block record, or inline.
 const NONE: u32 = u32::MAX;
@@ -162,33 +168,93 @@ fn types(depth: u32) -> Vec<u32> {
     file(sections)
 }
 
+/// A variable of so many subranges of INT, one over the other.
+fn subranges(depth: u32) -> Vec<u32> {
+    let mut sections: [Vec<Vec<u32>>; 14] = Default::default();
+    sections[0] = vec![vec![254]];
+    sections[1] = vec![vec![1, 16, 0, 0, 0]];
+    sections[1].extend((0..depth).map(|base| vec![13, base, 0, 1, 0]));
+    sections[5] = vec![vec![depth, 0, 0, 0, 0, 0, 0, 0, 0, NONE, 0]];
+    sections[8] = vec![vec![1, 4, 1, 0]];
+    sections[9] = vec![vec![3, 1, 0, 0, 0, 0, 0, 0]];
+    sections[12] = vec![vec![1, 0, 5, 0, 0], vec![1, 0, 50, 0, 0]];
+    file(sections)
+}
+
+/// A variable of so many arrays of one element, one in the other.
+fn rows(depth: u32) -> Vec<u32> {
+    let mut sections: [Vec<Vec<u32>>; 14] = Default::default();
+    sections[0] = vec![vec![254]];
+    sections[1] = vec![vec![1, 16, 0, 0, 0]];
+    sections[1].extend((0..depth).map(|element| vec![12, element, 0, 1, 0]));
+    sections[4] = vec![vec![1, 1]];
+    sections[5] = vec![vec![depth, 0, 0, 0, 0, 0, 0, 0, 0, NONE, 0]];
+    sections[8] = vec![vec![1, 4, 1, 0]];
+    sections[9] = vec![vec![3, 1, 0, 0, 0, 0, 0, 0]];
+    file(sections)
+}
+
+/// So many types, each a structure of the one before, whose defaults are known
+/// when the next wants them, and a variable of the last.
+fn defaults(depth: u32) -> Vec<u32> {
+    let mut sections: [Vec<Vec<u32>>; 14] = Default::default();
+    sections[0] = vec![vec![254]];
+    sections[1] = vec![vec![1, 16, 0, 0, 0]];
+    sections[5] = vec![vec![0, 0, 0, 0, 0, 0, 0, 0, 0, NONE, 0]];
+    sections[9] = vec![vec![3, 1, 0, 0, 0, 0, 0, 0]];
+    for inner in 0..depth {
+        sections[1].push(vec![11, inner, 1, 0, 0]);
+        sections[3].push(vec![1, inner, 1]);
+        sections[5].push(vec![inner + 1, 0, 0, 0, 5, 0, 0, inner, 1, NONE, 0]);
+        sections[7].push(vec![1, inner]);
+        sections[9].push(vec![3, inner + 2, 0, 0, 0, 0, 0, 0]);
+    }
+    sections[8] = vec![vec![1, 4, depth + 1, depth]];
+    file(sections)
+}
+
+/// No variable here has more bytes.
+const BYTES: usize = 2048 * 4;
+
+/// What is said of a variable: its tree, written or read.
+fn answer(question: &str, words: &[u32], variable: u32, bytes: &mut [u8]) -> u64 {
+    let [mut lines, mut room] = work_words(words).map(|count| vec![0; count as usize]);
+    let mut out = vec![0; 2048 * 6];
+    match question {
+        "tree" => ask(What::Variable, words, variable, &mut out, &mut lines, &mut room),
+        "written" => write_memory(words, variable, bytes, &mut lines, &mut room),
+        _ => read_memory(words, variable, bytes, &mut out, &mut [], &mut lines, &mut room),
+    }
+}
+
+/// A slice to write bytes to, or those to read.
+fn lent(question: &str, words: &[u32], variable: u32) -> Vec<u8> {
+    let mut bytes = vec![0; BYTES];
+    if question == "read" {
+        let code = answer("written", words, variable, &mut bytes);
+        bytes.truncate(code as usize);
+    }
+    bytes
+}
+
 /// The last variable's answer, in a thread with so much stack.
-fn run(words: Vec<u32>, variable: u32, bytes: usize) {
-    let answered = thread::Builder::new().stack_size(bytes).spawn(move || {
-        let [lines, room] = work_words(&words).map(|count| count as usize);
-        let mut lines = vec![0; lines];
-        let mut room = vec![0; room];
-        let mut out = vec![0; 2048 * 6];
-        ask(
-            What::Variable,
-            &words,
-            variable,
-            &mut out,
-            &mut lines,
-            &mut room,
-        )
-    });
+fn run(question: String, words: Vec<u32>, variable: u32, stack: usize) {
+    let mut bytes = lent(&question, &words, variable);
+    let answered = thread::Builder::new()
+        .stack_size(stack)
+        .spawn(move || answer(&question, &words, variable, &mut bytes));
     let code = answered.expect("a thread").join().expect("an answer");
-    // A value, or too large: anything else means that the file is not what it should be.
-    if code >> 32 != 0 && code >> 32 != 8 {
+    // A value, too large, or arrays in structures whose last part is not held:
+    // anything else means that the file is not what it should be.
+    if !matches!(code >> 32, 0 | 8 | 14) {
         exit(3);
     }
 }
 
-fn passes(kind: &str, depth: u32, bytes: usize) -> bool {
+fn passes(question: &str, kind: &str, depth: u32, bytes: usize) -> bool {
     let program = env::current_exe().expect("this program has a path");
     Command::new(program)
-        .args([kind, &depth.to_string(), &bytes.to_string()])
+        .args([question, kind, &depth.to_string(), &bytes.to_string()])
         .stdout(Stdio::null())
         .stderr(Stdio::null())
         .status()
@@ -197,11 +263,11 @@ fn passes(kind: &str, depth: u32, bytes: usize) -> bool {
 }
 
 /// The least stack that is enough, to 4 KiB.
-fn least(kind: &str, depth: u32) -> usize {
+fn least(question: &str, kind: &str, depth: u32) -> usize {
     let (mut low, mut high) = (0, 256 << 20);
     while high - low > 4096 {
         let middle = (low + high) / 2;
-        if passes(kind, depth, middle) {
+        if passes(question, kind, depth, middle) {
             high = middle;
         } else {
             low = middle;
@@ -210,22 +276,23 @@ fn least(kind: &str, depth: u32) -> usize {
     high
 }
 
-fn main() {
-    let arguments: Vec<String> = env::args().skip(1).collect();
-    if let [kind, depth, bytes] = &arguments[..] {
-        let depth = depth.parse().expect("a depth");
-        let (words, variable) = match kind.as_str() {
-            "arrays" => (arrays(depth), 1),
-            "repeats" => (repeats(depth), 0),
-            "parentheses" => (parentheses(depth), 0),
-            "structures" => (structures(depth), 0),
-            "members" => (members(depth), 0),
-            "types" => (types(depth), 0),
-            _ => exit(2),
-        };
-        run(words, variable, bytes.parse().expect("a number of bytes"));
-        return;
+/// The file of a kind, and its last variable.
+fn nested(kind: &str, depth: u32) -> (Vec<u32>, u32) {
+    match kind {
+        "arrays" => (arrays(depth), 1),
+        "repeats" => (repeats(depth), 0),
+        "parentheses" => (parentheses(depth), 0),
+        "structures" => (structures(depth), 0),
+        "members" => (members(depth), 0),
+        "types" => (types(depth), 0),
+        "subranges" => (subranges(depth), 0),
+        "rows" => (rows(depth), 0),
+        "defaults" => (defaults(depth), 0),
+        _ => exit(2),
     }
+}
+
+fn measure_trees() {
     for (kind, most) in [
         ("arrays", 4095),
         ("repeats", 8191),
@@ -234,11 +301,42 @@ fn main() {
         ("members", 1023),
         ("types", 1023),
     ] {
-        let base = least(kind, 1);
+        let base = least("tree", kind, 1);
         for depth in [most / 2, most] {
-            let bytes = least(kind, depth);
+            let bytes = least("tree", kind, depth);
             let more = (bytes - base) / (depth as usize - 1);
             println!("{kind} {depth}: {bytes} bytes, {more} for each after the first");
         }
+    }
+}
+
+/// Of arrays no more than a tree has nodes for.
+fn measure_memory() {
+    for (kind, most) in [
+        ("structures", 1023),
+        ("subranges", 1023),
+        ("rows", 1023),
+        ("members", 1023),
+        ("types", 1023),
+        ("defaults", 1023),
+        ("arrays", 1022),
+    ] {
+        for depth in [1, most] {
+            let [tree, written, read] = ["tree", "written", "read"].map(|question| least(question, kind, depth));
+            println!("{kind} {depth}: tree {tree} bytes, written {written} bytes, read {read} bytes");
+        }
+    }
+}
+
+fn main() {
+    let arguments: Vec<String> = env::args().skip(1).collect();
+    match &arguments[..] {
+        [] => measure_trees(),
+        [memory] if memory == "memory" => measure_memory(),
+        [question, kind, depth, bytes] => {
+            let (words, variable) = nested(kind, depth.parse().expect("a depth"));
+            run(question.clone(), words, variable, bytes.parse().expect("a number of bytes"));
+        }
+        _ => exit(2),
     }
 }
