@@ -47,3 +47,5 @@ pub mod Passing
 pub mod Writing
 pub mod Demand
 pub mod Printing
+-- ---- numbers
+pub mod Rounding

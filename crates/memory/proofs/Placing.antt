@@ -11,7 +11,7 @@ use Rattle.definition.specs.declared.records.Place.{Place}
 use Rattle.definition.specs.Base.{choose}
 use Rattle.definition.specs.Layout.{word, count, shapes, variables, types}
 use Rattle.definition.specs.Tree.{Tree, nodes, flatten}
-use Rattle.definition.specs.Ask.{Result, ok, none, large, Outcome, Ask, done, bind, _>>=_, nothing}
+use Rattle.definition.specs.Ask.{Result, ok, none, large, Outcome, done, bind, _>>=_, nothing}
 use Rattle.definition.specs.Defaults.{initializer, declaration, body}
 use Rattle.definition.specs.Places.{variablePlace}
 use Rattle.definition.specs.Resolve.{variableOutcome, answer, run, resolve, remembered}

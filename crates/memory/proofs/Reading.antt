@@ -1,17 +1,17 @@
 -- A law for each call and each return of read.rt. Assumes nothing.
 use mathlib.Core.Path.{_≡_, refl, ap, sym, subst, _∙_}
-use mathlib.Core.Bool.{Bool, true, false, _&&_}
+use mathlib.Core.Bool.{Bool, true, false}
 use mathlib.Core.List.{List, [], _∷_, _++_}
 use Prim.Native.Nat.{ℕ, zero, suc, _+_, _*_, _≤_, _<_}
 use native.Mathlib.Omega.{arith}
-use lib.Dec.{eqb, leb}
+use lib.Dec.{leb}
 use lib.ListN.{length, take, drop, length-append}
 use borrow.Author.Needs.{needs}
 use borrow.Author.Tests.{ne-eqb, eq-eqb, le-leb, lt-leb}
 use denote.Enum.Declared.{tagOf}
 use Rattle.definition.specs.declared.answers.TreeAnswer.{TreeAnswer}
 use Rattle.definition.specs.declared.answers.TreeAnswer.the-variants as tree
-use Rattle.definition.specs.Ask.{ok, none, large, Outcome}
+use Rattle.definition.specs.Ask.{none, large, Outcome}
 use Rattle.definition.specs.Resolve.{variableOutcome}
 use Rattle.definition.specs.Answers.{refuses, answered, over, treeSays}
 use Rattle.build.specs.declared.built.Built.{Built}
@@ -20,7 +20,7 @@ use Rattle.build.proofs.built.Built.{the-type}
 use Rattle.driver.specs.Told.{Tells}
 use Rattle.resolver.proofs.Answering.{tells-none, tells-large, tells-wanted}
 use Rattle.memory_definition.specs.Cells.{Cell, variableCells}
-use Rattle.memory_definition.specs.Forms.{nodeRead, textRead}
+use Rattle.memory_definition.specs.Forms.{textRead}
 use Rattle.memory_definition.specs.Memory.{size, readableAll, textAll, nodeWordsOf, nodesAll}
 use Rattle.memory_definition.specs.Answers.{readRefused, readAnswer, readOver, treeReadOf, nodesReadOf, textReadOf}
 use Rattle.memory_laws.specs.InWords.{cellsFrom}

@@ -1,20 +1,18 @@
 -- A law for each call and each return of write.rt. Assumes nothing.
-use mathlib.Core.Path.{_≡_, refl, ap, sym, subst, _∙_}
+use mathlib.Core.Path.{_≡_, ap, sym, subst, _∙_}
 use mathlib.Core.Bool.{Bool, true, false}
 use mathlib.Core.List.{List, _++_}
 use Prim.Native.Nat.{ℕ, _*_, _/_, _≤_, _<_}
 use native.Mathlib.Omega.{arith}
-use lib.Dec.{eqb, leb}
+use lib.Dec.{leb}
 use lib.ListN.{length, drop}
 use borrow.Author.Needs.{needs}
 use borrow.Author.Tests.{ne-eqb, eq-eqb, le-leb, lt-leb}
 use denote.Enum.Declared.{tagOf}
-use Rattle.definition.specs.Base.{choose}
-use Rattle.definition.specs.Accept.{need}
-use Rattle.definition.specs.Tree.{Tree, nodes, flatten}
-use Rattle.definition.specs.Ask.{ok, none, large, Outcome}
+use Rattle.definition.specs.Tree.{nodes}
+use Rattle.definition.specs.Ask.{none, large, Outcome}
 use Rattle.definition.specs.Resolve.{variableOutcome}
-use Rattle.definition.specs.Answers.{refuses, answered, over, variableRefused}
+use Rattle.definition.specs.Answers.{refuses, answered, over}
 use Rattle.laws.specs.Puts.{Puts}
 use Rattle.laws.specs.Whole.{flatten-length}
 use Rattle.build.specs.declared.built.Built.{Built}

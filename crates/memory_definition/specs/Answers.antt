@@ -1,7 +1,7 @@
 -- What the functions of start memory answer, and what they leave in the words and bytes that they are lent (document 02, Q-1: "without a tree none or 8; in writing 14 for
 -- a node its shape can't hold, then 15 for a character too wide; in reading 14 for bytes that no tree of these parts is written as; all before 10"). Before these come the
 -- refusals of a variable's tree, which wants the same work words.
-use mathlib.Core.Bool.{Bool, _&&_}
+use mathlib.Core.Bool.{_&&_}
 use mathlib.Core.List.{List, [], _∷_}
 use Prim.Native.Nat.{ℕ, _*_, _^_}
 use lib.Dec.{eqb, leb}

@@ -1,12 +1,12 @@
 -- Nodes as bytes and read from bytes, on given shapes, and whole variables: bytes and words by hand, from document 02 and IEEE 754. Each side of each bound.
 use mathlib.Core.Path.{_≡_, refl}
-use mathlib.Core.Bool.{Bool, true, false}
+use mathlib.Core.Bool.{Bool}
 use mathlib.Core.List.{List, [], _∷_, _++_, map}
 use Prim.Native.Nat.{ℕ}
 use lib.ListN.{replicate}
 use Rattle.definition.specs.declared.records.Shape.{Shape}
 use Rattle.definition.specs.declared.records.Shape.the-variants as shape
-use Rattle.definition.specs.Base.{pick, choose}
+use Rattle.definition.specs.Base.{pick}
 use Rattle.definition.specs.declared.records.Place.{Place}
 use Rattle.definition.specs.Tree.{Node, Tree, node, tnil, tcons, structureTree}
 use Rattle.definition.specs.Places.{bare}

@@ -1,8 +1,8 @@
 -- One node as bytes, and read from bytes (document 02, Q-1), by the shape of its place.
 use mathlib.Core.Bool.{Bool, true, false, not, _&&_, _||_}
-use mathlib.Core.List.{List, [], _∷_, _++_}
+use mathlib.Core.List.{List, [], _∷_}
 use Prim.Native.Nat.{ℕ, zero, suc, _+_, _-_, _*_, _/_, _%_, _^_}
-use lib.Dec.{eqb, leb, ltb}
+use lib.Dec.{eqb, ltb}
 use lib.ListN.{getD, replicate}
 use lib.Ieee.{binary64, nanBits}
 use Rattle.definition.specs.declared.records.Shape.{Shape}
@@ -12,10 +12,10 @@ use Rattle.definition.specs.Base.{pick}
 use Rattle.definition.specs.Layout.{word, count, shapes, members, characters}
 use Rattle.definition.specs.Records.{constantOf, shapeAt}
 use Rattle.definition.specs.Accept.{constantPlain}
-use Rattle.definition.specs.Tree.{Node, head, constantTree, enumeratedTree, nullTree}
+use Rattle.definition.specs.Tree.{Node}
 use Rattle.definition.specs.Ask.{Result, ok, none, large}
 use Rattle.definition.specs.Scalar.{sizeOf, maxLength, converted, long}
-use Rattle.definition.specs.Shapes.{onShape, onArray}
+use Rattle.definition.specs.Shapes.{onShape}
 use Rattle.definition.specs.Places.{firstNamed}
 use Rattle.memory_definition.specs.declared.form.Form.{Form}
 use Rattle.memory_definition.specs.declared.form.Form.the-variants as form
@@ -120,7 +120,7 @@ unfoldable pub fitsUpTo : List ℕ → ℕ → Shape → Constant → Bool
 fitsUpTo f zero s c = false
 fitsUpTo f (suc k) s c = unchanged f s c && onBase s (λ base. fitsUpTo f k (shapeAt f base) c)
 
--- a constant that a file may hold (refusal 3) and that fits
+-- a constant that a file may hold (refusal 3), so no expression and no reference, and that fits
 unfoldable pub heldConstant : List ℕ → Cell → Bool
 heldConstant f c =
     let h : Node = c .node in
@@ -150,7 +150,7 @@ heldAs f form.Real c = heldConstant f c && not (nanBits binary64 (sizeOf (consta
 heldAs f form.LongReal c = heldConstant f c
 heldAs f (form.String most width) c = heldConstant f c
 heldAs f (form.Enumeration first count) c = eqb (c .node .kind) 9 && not (eqb (memberLink f first count c) 0)
--- expressions, references and what has no place
+-- where a shape stores no leaf, or where there is no place
 heldAs f form.Nothing c = false
 
 unfoldable pub held : List ℕ → Cell → Bool

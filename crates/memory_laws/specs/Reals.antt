@@ -1,35 +1,21 @@
 -- A REAL's 64 bits as 32 and back: both are numbers of their width, a NaN stays one and nothing else becomes one, and writing what was read gives the bits. Assumes nothing.
 use mathlib.Core.Path.{_≡_, refl, sym, ap, _∙_, subst}
-use mathlib.Core.Bool.{Bool, true, false, not, _&&_, cond}
-use Prim.Native.Nat.{ℕ, zero, suc, _+_, _-_, _*_, _/_, _%_, _^_, _≤_, _<_}
-use native.Mathlib.Nat.{zero-lt-suc, zero-mul, mul-one, mul-assoc, mul-right-comm, lt-irrefl, lt-of-lt-of-le, le-of-suc-le-suc, lt-of-not-le, mul-lt-mul-of-pos-right}
+use mathlib.Core.Bool.{Bool, false, not, _&&_}
+use Prim.Native.Nat.{ℕ, zero, suc, _+_, _-_, _*_, _%_, _^_, _≤_, _<_}
+use native.Mathlib.Nat.{zero-lt-suc, zero-mul, mul-one, mul-assoc, lt-irrefl, lt-of-lt-of-le, le-of-suc-le-suc, lt-of-not-le, mul-lt-mul-of-pos-right}
 use native.Mathlib.Omega.{arith}
 use lib.Dec.{T, eqb, ltb, leb, ltb→lt, leb→le}
 use lib.IntN.{ℤ, pos, negsuc}
 use lib.Pow.{pow-add, pow-pos, pow-mono, pow-lt, shl-lt}
-use lib.Ieee.{Float, nan, inf, fin, Format, binary32, binary64, prec, emax, low, hid, top, up, down, size, odd, units, round, fits, isNan, nanBits, toBits, ofBits}
+use lib.Ieee.{Float, nan, inf, fin, Format, binary32, binary64, up, down, round, fits, isNan, nanBits, toBits, ofBits}
 use lib.Ieee.Bits.{ofBits-toBits, toBits-ofBits, ofBits-fits, toBits-lt, nanBits-is}
 use lib.Ieee.Digits.{back}
 use lib.Ieee.Exact.{HasValue, round-exact}
 use lib.Ieee.Fits.{and-l, and-r, down-pos, round-is, round-fits, nan-fits, inf-fits, fits-widens}
-use lib.Ieee.Nearest.{div-same}
+use Rattle.laws.specs.Rounding.{toBits-at, units-no-nan}
 use Rattle.memory_definition.specs.Numbers.{inFormat, narrowed, widened}
 
--- ---- the bits of a finite value, by its sign and its size in units of the format's smallest value
-abbrev pub pack : Format → Bool → ℕ → ℕ
-pack f s n = cond s (top f) 0 + (size n - prec f) * hid f + n / 2 ^ (size n - prec f)
-
-pub toBits-at : (f : Format) (x : Float) (s : Bool) (a c : ℕ) → 0 < c → HasValue x s a c → toBits f x ≡ pack f s (a * 2 ^ low f / c)
-unfolding toBits
-toBits-at f nan s a c C h = absurd h
-toBits-at f (inf t) s a c C h = absurd h
-toBits-at f (fin t m e) s a c C h =
-    let same : m * up e * 2 ^ low f / down e ≡ a * 2 ^ low f / c =
-    div-same (m * up e * 2 ^ low f) (down e) (a * 2 ^ low f) c (down-pos e) C
-    (mul-right-comm (m * up e) (2 ^ low f) c ∙ ap (λ (z : ℕ). z * 2 ^ low f) (h .1) ∙ mul-right-comm a (down e) (2 ^ low f)) in
-    ap (λ (b : Bool). pack f b (m * up e * 2 ^ low f / down e)) (h .0) ∙ ap (pack f s) same
-
--- so a value is written in one way
+-- ---- a value is written in one way
 pub fits-unique : (f : Format) (x y : Float) (s : Bool) (a c : ℕ) → 0 < c → T (fits f x) → T (fits f y) → HasValue x s a c → HasValue y s a c → x ≡ y
 fits-unique f x y s a c C p q v w =
     sym (ofBits-toBits f x p) ∙ ap (ofBits f) (toBits-at f x s a c C v ∙ sym (toBits-at f y s a c C w)) ∙ ofBits-toBits f y q
@@ -94,19 +80,6 @@ unfolding narrowed
 narrowed-lt n = toBits-lt binary32 (inFormat binary32 (ofBits binary64 n)) (in-format-fits binary32 (ofBits binary64 n))
 
 -- ---- NaNs
-odd-no-nan : (d : ℕ) (s : Bool) (q k l : ℕ) → isNan (odd d s q k l) ≡ false
-unfolding odd isNan
-odd-no-nan d s zero k l = refl
-odd-no-nan d s (suc q) k l = refl
-
-units-no-nan : (f : Format) (s : Bool) (q k : ℕ) → isNan (units f s q k) ≡ false
-unfolding units isNan
-units-no-nan f s q k = go (ltb (q * 2 ^ k) (2 ^ (low f + suc (emax f))))
-  where
-    go : (b : Bool) → isNan (cond b (odd (suc (prec f)) s q k (low f)) (inf s)) ≡ false
-    go true = odd-no-nan (suc (prec f)) s q k (low f)
-    go false = refl
-
 in-format-nan : (g : Format) (x : Float) → isNan (inFormat g x) ≡ isNan x
 unfolding inFormat isNan
 in-format-nan g nan = refl

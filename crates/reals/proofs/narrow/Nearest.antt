@@ -1,43 +1,15 @@
 -- `closest` of a power of two, by the bits that the code looks at: a law for each return of `rounded`. Assumes nothing.
-use mathlib.Core.Path.{_≡_, refl, sym, ap, _∙_, subst}
-use mathlib.Core.Bool.{true, false}
-use Prim.Native.Nat.{ℕ, suc, _+_, _-_, _*_, _/_, _%_, _^_, _≤_, _<_, compare, Ordering, Ordering·lt, Ordering·eq, Ordering·gt}
-use native.Mathlib.Nat.{le-of-lt, one-mul, div-eq-of-lt, mod-eq-of-lt, pow-succ'}
+use mathlib.Core.Path.{_≡_, sym, ap, _∙_, subst}
+use Prim.Native.Nat.{ℕ, _+_, _-_, _*_, _/_, _%_, _^_, _≤_, _<_}
+use native.Mathlib.Nat.{one-mul, div-eq-of-lt, mod-eq-of-lt, pow-succ'}
 use native.Mathlib.Numerals.{add-one}
 use native.Mathlib.Omega.{arith}
 use borrow.Author.Needs.{needs}
-use borrow.Author.Tests.{le-leb, lt-leb, eq-eqb, ne-eqb}
 use lib.Bits.{bitAnd, and-mask, mask-lt}
-use lib.Dec.{isLe, isEq, lit<}
+use lib.Dec.{lit<}
 use lib.Pow.{pow-mono, pow-pos, shl-exact, shr-le, mod-pow-add}
-use lib.Ieee.{nearest}
 use lib.Ieee.Nearest.{closest}
-
--- ---- by how the remainder stands to the half
-module _ (m u : ℕ) where
-  closest-down : m % u * 2 < u → m / u ≡ closest m u
-  closest-down h = go (compare (m % u * 2) u) (le-leb _ _ (le-of-lt h)) (ne-eqb (m % u * 2) u (λ e. omega arith))
-    where
-      go : (o : Ordering) → isLe o ≡ true → isEq o ≡ false → m / u ≡ nearest (m / u) o
-      go Ordering·lt p q = refl
-      go Ordering·eq p q = cc
-      go Ordering·gt p q = cc
-
-  closest-up : u < m % u * 2 → m / u + 1 ≡ closest m u
-  closest-up h = rw add-one (go (compare (m % u * 2) u) (lt-leb _ _ h))
-    where
-      go : (o : Ordering) → isLe o ≡ false → suc (m / u) ≡ nearest (m / u) o
-      go Ordering·lt p = cc
-      go Ordering·eq p = cc
-      go Ordering·gt p = refl
-
-  closest-tie : m % u * 2 ≡ u → m / u + bitAnd (m / u) 1 ≡ closest m u
-  closest-tie h = rw (and-mask (m / u) 1) (go (compare (m % u * 2) u) (eq-eqb _ _ h))
-    where
-      go : (o : Ordering) → isEq o ≡ true → m / u + m / u % 2 ≡ nearest (m / u) o
-      go Ordering·lt p = cc
-      go Ordering·eq p = refl
-      go Ordering·gt p = cc
+use Rattle.laws.specs.Rounding.{closest-down, closest-up, closest-tie}
 
 -- ---- by the half's bit and those below it
 module _ (m b : ℕ) where
@@ -93,9 +65,9 @@ module _ (m b : ℕ) where
       one = omega (arith, and-mask (m / 2 ^ b) 1)
 
       pub tie : sticky ≡ 0 → m / 2 ^ (b + 1) + bitAnd (m / 2 ^ (b + 1)) 1 ≡ closest m (2 ^ (b + 1))
-      tie e = closest-tie m (2 ^ (b + 1)) (omega (arith, unit, rest 1 one))
+      tie e = rw (and-mask (m / 2 ^ (b + 1)) 1) (closest-tie m (2 ^ (b + 1)) (omega (arith, unit, rest 1 one)))
 
       pub up : (sticky ≡ 0 → ⊥) → m / 2 ^ (b + 1) + 1 ≡ closest m (2 ^ (b + 1))
-      up e = closest-up m (2 ^ (b + 1)) (omega (arith, unit, rest 1 one))
+      up e = rw add-one (closest-up m (2 ^ (b + 1)) (omega (arith, unit, rest 1 one)))
 
 pub ruleset laws = (needs, nothing-kept, even-fits, next-fits, bit-pos, down, tie, up)

@@ -2,7 +2,7 @@
 use mathlib.Core.Path.{_≡_, refl, sym, ap, _∙_, subst}
 use mathlib.Core.Bool.{Bool, true, false}
 use Prim.Native.Nat.{ℕ, zero, suc, _+_, _-_, _*_, _/_, _%_, _^_, _≤_, _<_, min, compare}
-use native.Mathlib.Nat.{le-trans, le-of-eq, lt-of-lt-of-le, zero-add, mul-assoc, mul-le-mul-right, le-div-iff-mul-le, div-lt-iff-lt-mul}
+use native.Mathlib.Nat.{le-trans, le-of-eq, lt-of-lt-of-le, zero-add, mul-le-mul-right, le-div-iff-mul-le, div-lt-iff-lt-mul}
 use native.Mathlib.Omega.{arith}
 use borrow.Author.Needs.{needs}
 use borrow.Author.Tests.{ne-eqb, eqb-true, eqb-false, ltb-true, ltb-false}
@@ -17,7 +17,8 @@ use lib.Ieee.Scale.{round-same}
 use Rattle.memory_definition.specs.Numbers.{inFormat}
 use Rattle.reals.specs.Fields.{Fields, single}
 use Rattle.reals.proofs.narrow.Nearest.{nothing-kept}
-use Rattle.reals.proofs.narrow.Units.{signed, size-is, units-bits}
+use Rattle.laws.specs.Rounding.{size-is, shl-shl}
+use Rattle.reals.proofs.narrow.Units.{signed, units-bits}
 
 -- ---- a value is rounded as any fraction that it equals
 in-format-at : (x : Float) (s : Bool) (a c : ℕ) → 0 < c → HasValue x s a c → inFormat binary32 x ≡ round binary32 s a c
@@ -28,9 +29,6 @@ in-format-at (fin t m e) s a c C h = ap (λ (b : Bool). round binary32 b (m * up
 
 odd-rounded : (s : Bool) (m y : ℕ) → inFormat binary32 (odd 53 s m y 1074) ≡ round binary32 s (m * 2 ^ y) (2 ^ 1074)
 odd-rounded s m y = in-format-at (odd 53 s m y 1074) s (m * 2 ^ y) (2 ^ 1074) (pow-pos 1074) (odd-sign 53 s m y 1074)
-
-shl-shl : (q a b : ℕ) → q * 2 ^ a * 2 ^ b ≡ q * 2 ^ (a + b)
-shl-shl q a b = mul-assoc q (2 ^ a) (2 ^ b) ∙ ap (λ (x : ℕ). q * x) (sym (pow-add 2 a b))
 
 -- ---- m * 2 ^ y of the smallest doubles
 module _ (m y : ℕ) (few : m < 2 ^ 53) where

@@ -3,23 +3,15 @@ use mathlib.Core.Path.{_≡_, refl, sym, ap, _∙_, subst}
 use mathlib.Core.Logic.{inl, inr}
 use mathlib.Core.Bool.{Bool, true, false, cond}
 use Prim.Native.Nat.{ℕ, suc, _+_, _-_, _*_, _/_, _^_, _≤_, _<_, min}
-use native.Mathlib.Nat.{le-trans, le-of-eq, le-antisymm, lt-of-not-le, lt-irrefl, lt-of-lt-of-le, lt-of-le-of-lt, eq-or-lt-of-le, eq-zero-or-pos, le-of-mul-le-mul-right, add-assoc, mul-assoc, mul-one, mul-le-mul-right, mul-le-mul-left, mul-div-cancel, suc-add, pow-succ'}
+use native.Mathlib.Nat.{le-trans, le-of-eq, lt-irrefl, lt-of-le-of-lt, eq-or-lt-of-le, eq-zero-or-pos, le-of-mul-le-mul-right, add-assoc, mul-assoc, mul-one, mul-le-mul-right, mul-le-mul-left, mul-div-cancel, pow-succ'}
 use native.Mathlib.Omega.{arith}
 use borrow.Author.Tests.{ltb-true, ltb-false}
 use lib.Dec.{ltb}
-use lib.Pow.{pow-add, pow-pos, pow-mono, pow-lt, shl-lt}
+use lib.Pow.{pow-add, pow-pos, pow-mono, pow-lt}
 use lib.Ieee.{inf, binary32, size, odd, units, toBits}
-use lib.Ieee.Digits.{size-lt, size-le}
+use lib.Ieee.Digits.{size-le}
 use lib.Ieee.Exact.{units-val}
-use Rattle.memory_laws.specs.Reals.{pack, toBits-at}
-
--- ---- how many digits a number has
-pub size-is : {n : ℕ} (j : ℕ) → 2 ^ j ≤ n → n < 2 ^ suc j → size n ≡ suc j
-size-is {n} j lo hi = le-antisymm (size-le n (suc j) hi) (lt-of-not-le (λ (g : size n ≤ j). lt-irrefl _ (lt-of-lt-of-le (size-lt n) (le-trans (pow-mono g) lo))))
-
-size-shl : (q j k : ℕ) → 2 ^ j ≤ q → q < 2 ^ suc j → size (q * 2 ^ k) ≡ suc (j + k)
-size-shl q j k lo hi =
-    size-is (j + k) (le-trans (le-of-eq (pow-add 2 j k)) (mul-le-mul-right (2 ^ k) lo)) (rw (suc-add) at (shl-lt (suc j) k hi))
+use Rattle.laws.specs.Rounding.{size-shl, pack, toBits-at}
 
 -- the sign's bit
 abbrev pub signed : Bool → ℕ

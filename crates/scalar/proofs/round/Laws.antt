@@ -14,6 +14,7 @@ use lib.Ieee.Fits.{round-is, round-fits, fits-widens}
 use lib.Ieee.Bits.{toBits-lt}
 use Rattle.std.proofs.num.Nearest.{upper-in, lower-in, halves-masked, two-to-32}
 use Rattle.definition.specs.Ieee.{formatOf, rounded}
+use Rattle.laws.specs.Rounding.{units-no-nan}
 
 -- ---- the sign
 fin-signed : (g : Format) (s : Bool) (m : ℕ) (e : ℤ) → toBits g (fin s m e) ≡ cond s (top g) 0 + toBits g (fin false m e)
@@ -37,21 +38,8 @@ pub round-signed : (f g : Format) (s : Bool) (n d : ℕ) → toBits g (round f s
 round-signed f g s n d = rw (round-is f s n d, round-is f false n d) (units-signed f g s _ _)
 
 -- ---- no NaN
-odd-no-nan : (d : ℕ) (s : Bool) (q k l : ℕ) → T (not (isNan (odd d s q k l)))
-unfolding odd isNan
-odd-no-nan d s zero k l = tt
-odd-no-nan d s (suc q) k l = tt
-
-units-no-nan : (f : Format) (s : Bool) (q k : ℕ) → T (not (isNan (units f s q k)))
-unfolding units isNan
-units-no-nan f s q k = go (ltb (q * 2 ^ k) (2 ^ (low f + suc (emax f))))
-  where
-    go : (b : Bool) → T (not (isNan (cond b (odd (suc (prec f)) s q k (low f)) (inf s))))
-    go true = odd-no-nan (suc (prec f)) s q k (low f)
-    go false = tt
-
 round-no-nan : (f : Format) (s : Bool) (n d : ℕ) → T (not (isNan (round f s n d)))
-round-no-nan f s n d = rw round-is (units-no-nan f s _ _)
+round-no-nan f s n d = rw (round-is, units-no-nan) tt
 
 -- ---- `lreal`: the sum of the halves, as the code has it
 abbrev sum : ℕ → Float

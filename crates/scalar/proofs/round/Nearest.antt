@@ -1,41 +1,12 @@
 -- `closest`, by how the remainder stands to the half, and by the bits that the code looks at: a law for each return of `highest`. Assumes nothing.
-use mathlib.Core.Path.{_≡_, refl}
-use mathlib.Core.Bool.{true, false}
-use Prim.Native.Nat.{ℕ, suc, _+_, _-_, _*_, _/_, _%_, _^_, _<_, compare, Ordering, Ordering·lt, Ordering·eq, Ordering·gt}
-use native.Mathlib.Nat.{le-of-lt}
+use mathlib.Core.Path.{_≡_}
+use Prim.Native.Nat.{ℕ, _+_, _-_, _*_, _/_, _%_, _^_, _<_}
 use native.Mathlib.Numerals.{add-one}
 use native.Mathlib.Omega.{arith}
 use borrow.Author.Needs.{needs}
-use borrow.Author.Tests.{le-leb, lt-leb, eq-eqb, ne-eqb}
 use lib.Bits.{bitAnd, and-mask}
-use lib.Dec.{isLe, isEq}
-use lib.Ieee.{nearest}
 use lib.Ieee.Nearest.{closest}
-
-module _ (m u : ℕ) where
-  closest-down : m % u * 2 < u → m / u ≡ closest m u
-  closest-down h = go (compare (m % u * 2) u) (le-leb _ _ (le-of-lt h)) (ne-eqb (m % u * 2) u (λ e. omega arith))
-    where
-      go : (o : Ordering) → isLe o ≡ true → isEq o ≡ false → m / u ≡ nearest (m / u) o
-      go Ordering·lt p q = refl
-      go Ordering·eq p q = cc
-      go Ordering·gt p q = cc
-
-  closest-up : u < m % u * 2 → suc (m / u) ≡ closest m u
-  closest-up h = go (compare (m % u * 2) u) (lt-leb _ _ h)
-    where
-      go : (o : Ordering) → isLe o ≡ false → suc (m / u) ≡ nearest (m / u) o
-      go Ordering·lt p = cc
-      go Ordering·eq p = cc
-      go Ordering·gt p = refl
-
-  closest-tie : m % u * 2 ≡ u → m / u + m / u % 2 ≡ closest m u
-  closest-tie h = go (compare (m % u * 2) u) (eq-eqb _ _ h)
-    where
-      go : (o : Ordering) → isEq o ≡ true → m / u + m / u % 2 ≡ nearest (m / u) o
-      go Ordering·lt p = cc
-      go Ordering·eq p = refl
-      go Ordering·gt p = cc
+use Rattle.laws.specs.Rounding.{closest-down, closest-up, closest-tie}
 
 -- the half's bit, and those below it
 module _ (m : ℕ) where

@@ -3,50 +3,28 @@ use mathlib.Core.Path.{_≡_, sym, ap, _∙_, subst}
 use mathlib.Core.Logic.{inl, inr}
 use mathlib.Core.Bool.{false}
 use Prim.Native.Nat.{ℕ, suc, _+_, _-_, _*_, _/_, _%_, _^_, _≤_, _<_, compare}
-use native.Mathlib.Nat.{le-trans, le-of-eq, le-antisymm, lt-of-not-le, lt-irrefl, lt-of-lt-of-le, eq-or-lt-of-le, mul-assoc, mul-comm, mul-right-comm, one-mul, div-one, mul-le-mul-right, le-div-iff-mul-le, mul-div-cancel, suc-add, zero-add, mod-eq-of-lt}
+use native.Mathlib.Nat.{le-trans, le-of-eq, lt-of-lt-of-le, eq-or-lt-of-le, mul-assoc, mul-comm, one-mul, div-one, mul-le-mul-right, le-div-iff-mul-le, mul-div-cancel, zero-add, mod-eq-of-lt}
 use native.Mathlib.Omega.{arith}
 use borrow.Author.Needs.{needs}
 use lib.Count.{leadingZeros, leading-top, leading-le}
 use lib.Pow.{pow-add, pow-pos, pow-mono, shl-lt, shr-lt}
-use lib.Ieee.{Float, nan, inf, fin, Format, binary32, binary64, prec, low, hid, up, down, size, units, round, toBits}
-use lib.Ieee.Digits.{size-lt, size-le}
+use lib.Ieee.{binary32, binary64, low, up, size, units, round, toBits}
 use lib.Ieee.Exact.{HasValue, units-val}
-use lib.Ieee.Fits.{down-pos, core, round-is, nearest-le}
-use lib.Ieee.Nearest.{closest, closest-same, div-same, nearest-ge}
-
--- ---- how many digits a number has
-size-is : {n : ℕ} (j : ℕ) → 2 ^ j ≤ n → n < 2 ^ suc j → size n ≡ suc j
-size-is {n} j lo hi = le-antisymm (size-le n (suc j) hi) (lt-of-not-le (λ (g : size n ≤ j). lt-irrefl _ (lt-of-lt-of-le (size-lt n) (le-trans (pow-mono g) lo))))
-
--- ---- a float's bits, from its value
-abbrev pack : Format → ℕ → ℕ
-pack f n = (size n - prec f) * hid f + n / 2 ^ (size n - prec f)
-
-toBits-at : (f : Format) (x : Float) (a c : ℕ) → 0 < c → HasValue x false a c → toBits f x ≡ pack f (a * 2 ^ low f / c)
-unfolding toBits
-toBits-at f nan a c C h = absurd h
-toBits-at f (inf t) a c C h = absurd h
-toBits-at f (fin t m e) a c C h =
-    let same : m * up e * 2 ^ low f / down e ≡ a * 2 ^ low f / c =
-    div-same (m * up e * 2 ^ low f) (down e) (a * 2 ^ low f) c (down-pos e) C
-    (mul-right-comm (m * up e) (2 ^ low f) c ∙ ap (λ (z : ℕ). z * 2 ^ low f) (h .1) ∙ mul-right-comm a (down e) (2 ^ low f)) in
-    rw (h .0, zero-add) (ap (pack f) same)
+use lib.Ieee.Fits.{core, round-is, nearest-le}
+use lib.Ieee.Nearest.{closest, closest-same, nearest-ge}
+use Rattle.laws.specs.Rounding.{size-shl, shl-shl, pack, toBits-at}
 
 -- ---- 24 digits, or 2 ^ 24, at a place of a double
-pack-at : (n k r : ℕ) → size n ≡ k + 53 → n ≡ r * 2 ^ k → pack binary64 n ≡ k * 2 ^ 52 + r
+pack-at : (n k r : ℕ) → size n ≡ k + 53 → n ≡ r * 2 ^ k → pack binary64 false n ≡ k * 2 ^ 52 + r
 pack-at n k r e h =
     let d : size n - 53 ≡ k = omega arith in
-    ap (λ (x : ℕ). x * 2 ^ 52 + n / 2 ^ x) d ∙ ap (λ (x : ℕ). k * 2 ^ 52 + x / 2 ^ k) h ∙ ap (λ (x : ℕ). k * 2 ^ 52 + x) (mul-div-cancel r (pow-pos k))
+    rw zero-add (ap (λ (x : ℕ). x * 2 ^ 52 + n / 2 ^ x) d ∙ ap (λ (x : ℕ). k * 2 ^ 52 + x / 2 ^ k) h ∙ ap (λ (x : ℕ). k * 2 ^ 52 + x) (mul-div-cancel r (pow-pos k)))
 
 -- q * 2 ^ (a + b), with b as a number
 shifted : (q a b : ℕ) → q * 2 ^ (a + b) ≡ q * 2 ^ b * 2 ^ a
 shifted q a b = ap (λ (x : ℕ). q * x) (pow-add 2 a b ∙ mul-comm (2 ^ a) (2 ^ b)) ∙ sym (mul-assoc q (2 ^ b) (2 ^ a))
 
-size-shl : (q j k : ℕ) → 2 ^ j ≤ q → q < 2 ^ suc j → size (q * 2 ^ k) ≡ suc (j + k)
-size-shl q j k lo hi =
-    size-is (j + k) (le-trans (le-of-eq (pow-add 2 j k)) (mul-le-mul-right (2 ^ k) lo)) (rw (suc-add) at (shl-lt (suc j) k hi))
-
-packed : (q p : ℕ) → 2 ^ 23 ≤ q → q ≤ 2 ^ 24 → pack binary64 (q * 2 ^ (p + 29)) ≡ p * 2 ^ 52 + q * 2 ^ 29
+packed : (q p : ℕ) → 2 ^ 23 ≤ q → q ≤ 2 ^ 24 → pack binary64 false (q * 2 ^ (p + 29)) ≡ p * 2 ^ 52 + q * 2 ^ 29
 packed q p lo hi = elim (eq-or-lt-of-le hi) [
   | inl e ↦
       let n = q * 2 ^ (p + 29) in
@@ -58,10 +36,6 @@ packed q p lo hi = elim (eq-or-lt-of-le hi) [
 ]
 
 -- ---- a whole number's 24 leading digits, rounded
--- two shifts in a row
-shl-shl : (q a b : ℕ) → q * 2 ^ a * 2 ^ b ≡ q * 2 ^ (a + b)
-shl-shl q a b = mul-assoc q (2 ^ a) (2 ^ b) ∙ ap (λ (x : ℕ). q * x) (sym (pow-add 2 a b))
-
 -- n has j + 1 digits, and z zeros above them to make 64. Shifted up by z, the 24 digits that a single keeps stand above the low 40.
 module _ (n z j : ℕ) (Z : z + suc j ≡ 64) (lo : 2 ^ j ≤ n) (hi : n < 2 ^ suc j) where
   abbrev q : ℕ
@@ -104,7 +78,7 @@ module _ (n z j : ℕ) (Z : z + suc j ≡ 64) (lo : 2 ^ j ≤ n) (hi : n < 2 ^ s
       let e : j + 126 + 1074 ≡ j + 1022 + 29 + 149 = omega arith in
       let at : q * 2 ^ (j + 126) * 2 ^ 1074 / 2 ^ 149 ≡ q * 2 ^ (j + 1022 + 29) =
       ap (λ (x : ℕ). x / 2 ^ 149) (shl-shl q (j + 126) 1074 ∙ ap (λ (x : ℕ). q * 2 ^ x) e ∙ sym (shl-shl q (j + 1022 + 29) 149)) ∙ mul-div-cancel (q * 2 ^ (j + 1022 + 29)) (pow-pos 149) in
-      toBits-at binary64 (round binary32 false n 1) (q * 2 ^ (j + 126)) (2 ^ 149) (pow-pos 149) value ∙ ap (pack binary64) at ∙ packed q (j + 1022) q-ge q-le
+      toBits-at binary64 (round binary32 false n 1) false (q * 2 ^ (j + 126)) (2 ^ 149) (pow-pos 149) value ∙ ap (pack binary64 false) at ∙ packed q (j + 1022) q-ge q-le
 
 -- ---- `real`
 pub zero-bits : {n : ℕ} → n ≡ 0 → 0 ≡ toBits binary64 (round binary32 false n 1)
