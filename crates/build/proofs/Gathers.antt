@@ -16,7 +16,8 @@ use Rattle.definition.specs.Ask.{Result, ok, none, large, Ask, done, _>>=_, giv
 use Rattle.definition.specs.Resolve.{Memo}
 use Rattle.definition.specs.Peek.{Peek, got, wants, peek}
 use Rattle.definition.specs.Places.{fieldPlace}
-use Rattle.definition.specs.Defaults.{field, fieldsBy, structured, defaultOf}
+use Rattle.definition.specs.Parts.{field, fieldsBy, structured}
+use Rattle.definition.specs.Starting.{defaultOf}
 use Rattle.laws.specs.Steps.{peek-give}
 use Rattle.laws.specs.Whole.{flattenAll-length, flattenAll-join, nodesIn-join, many-join, many-one}
 use Rattle.tree.specs.Words.{Stand}

@@ -13,7 +13,7 @@ use Rattle.definition.specs.Records.{shapeAt}
 use Rattle.definition.specs.Ask.{Result, ok, none}
 use Rattle.definition.specs.Shapes.{onShape}
 use Rattle.definition.specs.Places.{bare, placeOf, typedPlace, elementPlace, firstNamed, blockFieldType, fieldDeclaration, declaredType, declaredElement, structureFieldPlace, fieldPlace}
-use Rattle.definition.specs.Defaults.{ifStated}
+use Rattle.definition.specs.Parts.{ifStated}
 use Rattle.definition.specs.Depth.{deepest, shapeDepthFrom, shapeDepth, levels}
 use Rattle.laws.specs.Asks.{OnOk}
 use Rattle.laws.specs.Cases.{on-link}

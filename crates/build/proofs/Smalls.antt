@@ -10,7 +10,8 @@ use Rattle.definition.specs.Tree.{Tree, Trees, nodes, nodesIn, flatten, mostNod
 use Rattle.definition.specs.Ask.{Result, ok, Outcome, Ask, done, ask}
 use Rattle.definition.specs.Resolve.{Look, known, unknown, onLook, Memo, at}
 use Rattle.definition.specs.Peek.{got, wants, peek}
-use Rattle.definition.specs.Defaults.{elementDefaults, defaultOf}
+use Rattle.definition.specs.Parts.{elementDefaults}
+use Rattle.definition.specs.Starting.{defaultOf}
 use Rattle.laws.specs.Asks.{Asks, OnOk}
 use Rattle.laws.specs.Accepted.{Accepted}
 use Rattle.laws.specs.Used.{IsType, leads-inside}

@@ -12,7 +12,8 @@ use Rattle.definition.specs.Accept.{elementsOf}
 use Rattle.definition.specs.Tree.{Tree, Trees, flatten, flattenAll, arrayTree, nullTree, treeWords}
 use Rattle.definition.specs.Ask.{Result, ok, Outcome, Ask, done, _>>=_}
 use Rattle.definition.specs.Places.{fieldPlace}
-use Rattle.definition.specs.Defaults.{ifStated, flat, repeatedDefaults, field, defaultOf}
+use Rattle.definition.specs.Parts.{ifStated, flat, repeatedDefaults, field}
+use Rattle.definition.specs.Starting.{defaultOf}
 use Rattle.definition.specs.Depth.{shapeDepthFrom, shapeDepth}
 use Rattle.definition.specs.Resolve.{Memo}
 use Rattle.definition.specs.Peek.{peek}

@@ -13,7 +13,7 @@ use Rattle.definition.specs.Tree.{Tree, Trees, tnil, tcons, many, nodes, nodesI
 use Rattle.definition.specs.Ask.{Result, ok, none, large, Ask, done, _>>=_, give, andMore}
 use Rattle.definition.specs.Resolve.{Memo}
 use Rattle.definition.specs.Peek.{Peek, got, wants, peek}
-use Rattle.definition.specs.Defaults.{field, structured}
+use Rattle.definition.specs.Parts.{field, structured}
 use Rattle.laws.specs.Steps.{peek-give}
 use Rattle.laws.specs.Whole.{flattenAll-length, flattenAll-join, nodesIn-join, many-join}
 use Rattle.tree.specs.Words.{Stand}

@@ -2,7 +2,7 @@
 ghost use mathlib.Core.Path.{_≡_};
 ghost use Prim.Native.Nat.{_+_, _*_, _≤_, _<_};
 ghost use lib.ListN.{length};
-ghost use Rattle.definition.specs.Defaults.{subrangeDefault};
+ghost use Rattle.definition.specs.Starting.{subrangeDefault};
 ghost use Rattle.definition.specs.Tree.{flatten, treeWords};
 ghost use Rattle.laws.specs.Links.{Link};
 ghost use Rattle.laws.specs.Used.{IsType};

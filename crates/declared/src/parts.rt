@@ -4,7 +4,7 @@ ghost use Prim.Native.Nat.{_+_, _*_, _≤_, _<_};
 ghost use lib.ListN.{length};
 ghost use Rattle.definition.specs.Layout as Layout;
 ghost use Rattle.definition.specs.Layout.{elements};
-ghost use Rattle.definition.specs.Defaults.{structured};
+ghost use Rattle.definition.specs.Parts.{structured};
 ghost use Rattle.definition.specs.Tree.{flatten, treeWords};
 ghost use Rattle.records.specs.Starts.{StartsOf};
 ghost use Rattle.places.specs.Inside.{PlaceIn};

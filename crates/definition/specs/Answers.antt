@@ -22,7 +22,7 @@ use Rattle.definition.specs.Layout.{count, types, variables}
 use Rattle.definition.specs.Accept.{need, verdict}
 use Rattle.definition.specs.Tree.{nodes, flatten, nodeWords, treeWords}
 use Rattle.definition.specs.Ask.{ok, none, large, Outcome}
-use Rattle.definition.specs.Resolve.{typeOutcome, variableOutcome}
+use Rattle.definition.specs.Starting.{typeOutcome, variableOutcome}
 use Rattle.definition.specs.Complete.{Completed, completed, left, completion}
 use Rattle.definition.specs.Uses.{ranksOf, rankAt}
 use Rattle.definition.specs.Sheet.{onRanking, sheetWith, checkAnswer}

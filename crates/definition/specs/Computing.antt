@@ -10,6 +10,7 @@ use Rattle.definition.specs.Iec as Iec
 use Rattle.definition.specs.Ieee as Ieee
 use Rattle.definition.specs.Scalar as Scalar
 use Rattle.definition.specs.Places as Places
+use Rattle.definition.specs.Parts as Parts
 use Rattle.definition.specs.Defaults as Defaults
 use Rattle.definition.specs.Resolve as Resolve
 use Rattle.definition.specs.Peek as Peek
@@ -22,5 +23,5 @@ use Rattle.definition.specs.Answers as Answers
 use Rattle.definition.specs.Program as Program
 
 unfoldable pub computing : Unit {0}
-unfolding Base.opened Layout.opened Records.opened Accept.opened Syntax.opened Tree.opened Ask.opened Iec.opened Ieee.opened Scalar.opened Places.opened Defaults.opened Resolve.opened Peek.opened Complete.opened Lines.opened Uses.opened Sheet.opened Depth.opened Answers.opened Program.opened
+unfolding Base.opened Layout.opened Records.opened Accept.opened Syntax.opened Tree.opened Ask.opened Iec.opened Ieee.opened Scalar.opened Places.opened Parts.opened Defaults.opened Resolve.opened Peek.opened Complete.opened Lines.opened Uses.opened Sheet.opened Depth.opened Answers.opened Program.opened
 computing = tt

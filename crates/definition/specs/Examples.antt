@@ -5,11 +5,11 @@ use Prim.Native.Nat.{ℕ}
 use lib.ListN.{take}
 use Rattle.definition.specs.Base.{inline}
 use Rattle.definition.specs.Accept.{verdict}
-use Rattle.definition.specs.Lines.{typeLine, variableLine}
+use Rattle.definition.specs.Lines.{typeLine, variableLine, completedLine}
 use Rattle.definition.specs.Uses.{ranksOf}
 use Rattle.definition.specs.Sheet.{onRanking}
 use Rattle.definition.specs.Computing.{computing}
-use Rattle.definition.specs.ExampleFiles.{Records, sections, file, bool, int, type, variable, integer, subrange-of, alias-of, subrange-and-alias, circle, array-of, opened}
+use Rattle.definition.specs.ExampleFiles.{Records, sections, file, bool, int, type, variable, naming, integer, subrange-of, alias-of, subrange-and-alias, circle, array-of, opened}
 
 -- ---- records and files
 real : List ℕ
@@ -67,6 +67,10 @@ none = 1 ∷ 0 ∷ []
 leaf : ℕ → ℕ → ℕ → ℕ → List ℕ
 leaf kind sign low high = 0 ∷ 1 ∷ 0 ∷ kind ∷ sign ∷ low ∷ high ∷ 0 ∷ []
 
+-- a string's node: characters and last word
+string : ℕ → ℕ → ℕ → List ℕ
+string first many last = 0 ∷ 8 ∷ 0 ∷ first ∷ many ∷ last ∷ []
+
 -- three INTs
 three : ℕ → ℕ → ℕ → List ℕ
 three a b c =
@@ -93,8 +97,8 @@ rows =
     -- SINT -128 fits; -129 none
     row (simple (int 8) (integer 1 128)) (variableIs 0) (leaf 1 1 128 0) ∷
     row (simple (int 8) (integer 1 129)) (variableIs 0) none ∷
-    -- STRING[3] 'ABCD' is 'ABC'
-    row string-3 (variableIs 0) (leaf 8 0 0 3) ∷
+    -- STRING[3] 'ABCD' is 'ABC', with one character cut
+    row string-3 (variableIs 0) (0 ∷ 1 ∷ string 0 3 2) ∷
     -- REAL 16777217 is 16777216, whose f64 has the bits 0x4170000000000000
     row (simple real (integer 0 16777217)) (variableIs 0) (leaf 3 0 0 0x41700000) ∷
     -- Type 0 a subrange 1..9 named type 1 with start value 5, type 1 a simple alias of 0: 5 and none
@@ -167,11 +171,34 @@ in-progress-accepted : verdict circle-and-type ∷ verdict array-of-subrange ∷
 unfolding computing opened circle-and-type array-of-subrange
 in-progress-accepted = refl
 
+-- ---- characters cut (document 02, Q-2)
+-- type 0 is WSTRING[3] := 'ABCDE' and type 1 an array 1..2 of it; a variable of type 1, and one STRING[2] := 'ABCDE'
+captions : List ℕ
+captions =
+    file 254 ((9 ∷ 4 ∷ 1 ∷ 0 ∷ 0 ∷ []) ∷ (12 ∷ 0 ∷ 0 ∷ 1 ∷ 0 ∷ []) ∷ []) ((1 ∷ 2 ∷ []) ∷ [])
+    ((0 ∷ 0 ∷ 0 ∷ 0 ∷ 3 ∷ 0 ∷ 1 ∷ 0 ∷ 0 ∷ inline ∷ 0 ∷ []) ∷ type 1 1 ∷ [])
+    (variable 2 ∷ (1 ∷ 4 ∷ 1 ∷ 1 ∷ []) ∷ []) (naming 9 2 ∷ (4 ∷ 1 ∷ 0 ∷ 1 ∷ 0 ∷ 0 ∷ 3 ∷ 0 ∷ []) ∷ []) [] []
+    ((8 ∷ 0 ∷ 0 ∷ 5 ∷ 0 ∷ []) ∷ []) ((65 ∷ []) ∷ (66 ∷ []) ∷ (67 ∷ []) ∷ (68 ∷ []) ∷ (69 ∷ []) ∷ [])
+
+-- two are cut where the type is declared, once, and every copy has them; three are cut in the second variable
+two-captions : List ℕ
+two-captions = 3 ∷ 0 ∷ 13 ∷ 0 ∷ 2 ∷ 0 ∷ 0 ∷ string 0 3 5 ++ string 0 3 5
+
+captions-cut :
+    typeLine captions 0 ∷ variableLine captions 0 ∷ completedLine captions 0 ∷ variableLine captions 1 ∷ completedLine captions 1 ∷ []
+    ≡ (0 ∷ 1 ∷ string 0 3 5) ∷ (0 ∷ two-captions) ∷ (0 ∷ 9 ∷ two-captions) ∷ (0 ∷ 1 ∷ string 0 2 6) ∷ (0 ∷ 4 ∷ 1 ∷ string 0 2 6) ∷ []
+unfolding computing opened string captions two-captions
+captions-cut = refl
+
+captions-accepted : verdict captions ≡ 0
+unfolding computing opened captions
+captions-accepted = refl
+
 -- ---- every row's file is accepted, and every answer is the paper's
 accepted : map (λ r. verdict (r .about)) rows ≡ map (λ r. 0) rows
 unfolding computing opened rows row real true-literal array-123 constant-entry repeat-entry simple string-3
 accepted = refl
 
 starred : map (λ r. asked (r .question) (r .about)) rows ≡ map (λ r. r .is) rows
-unfolding computing opened asked rows row none leaf three real true-literal array-123 constant-entry repeat-entry simple string-3
+unfolding computing opened asked rows row none leaf string three real true-literal array-123 constant-entry repeat-entry simple string-3
 starred = refl

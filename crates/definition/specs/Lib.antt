@@ -25,9 +25,11 @@ pub mod Scalar
 -- places, and the places of fields and elements
 pub mod Places
 -- what a place, an initializer, a member list and a type start with
+pub mod Parts
 pub mod Defaults
 -- how asks are answered, as the Rust does
 pub mod Resolve
+pub mod Starting
 -- how a table answers them
 pub mod Peek
 -- completed initializers

@@ -7,7 +7,7 @@ use Rattle.definition.specs.Base.{pick}
 use Rattle.definition.specs.Layout.{count, types}
 use Rattle.definition.specs.Records.{declarationKind}
 use Rattle.definition.specs.Ask.{none, Outcome, Ask, done, ask, typeDefault}
-use Rattle.definition.specs.Defaults.{body, declaration}
+use Rattle.definition.specs.Defaults.{Leaves, body, declaration}
 
 -- what is remembered of a type. One in progress is remembered as none, until its outcome is put over it.
 pub data Look : Type 0 where
@@ -62,18 +62,20 @@ unfoldable pub declaredBelow : List ℕ → ℕ → List ℕ
 declaredBelow f zero = []
 declaredBelow f (suc t) = declaredBelow f t ++ pick (eqb (declarationKind f t) 0) [] (t ∷ [])
 
--- what is remembered then, and what a computation gives after that
-unfoldable pub remembered : List ℕ → Memo
-remembered f = resolveAll (body f) (count f types) (declaredBelow f (count f types))
+-- ---- in a file, where the leaves are decided so
+module _ (leaves : Leaves) where
+  -- what is remembered then, and what a computation gives after that
+  unfoldable pub remembered : List ℕ → Memo
+  remembered f = resolveAll (body leaves f) (count f types) (declaredBelow f (count f types))
 
-unfoldable pub answer : {A : Type 0} → List ℕ → Ask A → A
-answer f m = run (resolve (body f) (count f types)) (remembered f) m .value
+  unfoldable pub answer : {A : Type 0} → List ℕ → Ask A → A
+  answer f m = run (resolve (body leaves f) (count f types)) (remembered f) m .value
 
-unfoldable pub typeOutcome : List ℕ → ℕ → Outcome
-typeOutcome f t = answer f (typeDefault t)
+  unfoldable pub typeOutcome : List ℕ → ℕ → Outcome
+  typeOutcome f t = answer f (typeDefault t)
 
-unfoldable pub variableOutcome : List ℕ → ℕ → Outcome
-variableOutcome f v = answer f (declaration f v)
+  unfoldable pub variableOutcome : List ℕ → ℕ → Outcome
+  variableOutcome f v = answer f (declaration leaves f v)
 
 -- what this file computes with
 unfoldable pub opened : Unit {0}

@@ -2,7 +2,7 @@
 -- resolver.rs).
 use mathlib.Core.Bool.{Bool, true, false, _&&_, _||_}
 use mathlib.Core.List.{List}
-use Prim.Native.Nat.{ℕ, zero, suc, _+_, _/_, _%_, _^_, min}
+use Prim.Native.Nat.{ℕ, zero, suc, _+_, _-_, _*_, _/_, _%_, _^_, min}
 use lib.Dec.{eqb, leb, ltb}
 use lib.IntN.{ℤ}
 use Rattle.definition.specs.declared.records.Shape.{Shape}
@@ -61,10 +61,15 @@ onResult (ok a) g = g a
 onResult none g = none
 onResult large g = large
 
--- a run of characters cut to what the place holds, in the place's width; an empty one begins at 0
+-- a run of characters cut to what the place holds; an empty one begins at 0. The last word is the place's width plus 2 × the characters cut (document 02, Q-2).
 unfoldable pub cutString : List ℕ → ℕ → ℕ → ℕ → ℕ → Result Constant
 cutString f length width first many =
-    onResult (maxLength f length) (λ most. ok (constantOf 8 0 (pick (eqb (min many most) 0) 0 first) (min many most) width))
+    onResult (maxLength f length)
+    (λ most. ok (constantOf 8 0 (pick (eqb (min many most) 0) 0 first) (min many most) (width + 2 * (many - min many most))))
+
+-- a node's last word by its kind, with the characters cut taken out of a string's
+unfoldable pub uncutWord : ℕ → ℕ → ℕ
+uncutWord kind last = pick (eqb kind 8) (last % 2) last
 
 -- a string takes string literals of either width (`string_value`)
 unfoldable pub asString : List ℕ → ℕ → ℕ → Constant → Result Constant
@@ -150,20 +155,23 @@ enumeratedValue f s value qualifier = onEnumeration s none (λ first count. pick
 
 -- ---- what an expression gives a place (`expression`): the constant that it is, or itself, to be evaluated later
 -- parentheses are gone through always, a conversion only directly over a constant or an enumerated value
-unfoldable pub expressionValue : List ℕ → Shape → Expr → Outcome
-expressionValue f s (Expr.constant c) = constantValue f s c
-expressionValue f s (Expr.enumerated value qualifier) = enumeratedValue f s value qualifier
-expressionValue f s (Expr.parentheses x) = expressionValue f s x
-expressionValue f s (Expr.conversion n (Expr.constant c)) = constantValue f s c
-expressionValue f s (Expr.conversion n (Expr.enumerated value qualifier)) = enumeratedValue f s value qualifier
-expressionValue f s (Expr.conversion n (Expr.parentheses x)) = ok (expressionTree n)
-expressionValue f s (Expr.conversion n (Expr.conversion m x)) = ok (expressionTree n)
-expressionValue f s (Expr.conversion n (Expr.null m)) = ok (expressionTree n)
-expressionValue f s (Expr.conversion n (Expr.other m)) = ok (expressionTree n)
-expressionValue f s (Expr.null n) = ok (pick (isReference s) nullTree (expressionTree n))
-expressionValue f s (Expr.other n) = ok (expressionTree n)
+unfoldable pub expressionBy : (Shape → Constant → Outcome) → List ℕ → Shape → Expr → Outcome
+expressionBy constant f s (Expr.constant c) = constant s c
+expressionBy constant f s (Expr.enumerated value qualifier) = enumeratedValue f s value qualifier
+expressionBy constant f s (Expr.parentheses x) = expressionBy constant f s x
+expressionBy constant f s (Expr.conversion n (Expr.constant c)) = constant s c
+expressionBy constant f s (Expr.conversion n (Expr.enumerated value qualifier)) = enumeratedValue f s value qualifier
+expressionBy constant f s (Expr.conversion n (Expr.parentheses x)) = ok (expressionTree n)
+expressionBy constant f s (Expr.conversion n (Expr.conversion m x)) = ok (expressionTree n)
+expressionBy constant f s (Expr.conversion n (Expr.null m)) = ok (expressionTree n)
+expressionBy constant f s (Expr.conversion n (Expr.other m)) = ok (expressionTree n)
+expressionBy constant f s (Expr.null n) = ok (pick (isReference s) nullTree (expressionTree n))
+expressionBy constant f s (Expr.other n) = ok (expressionTree n)
+
+abbrev pub expressionValue : List ℕ → Shape → Expr → Outcome
+expressionValue f = expressionBy (constantValue f) f
 
 -- what this file computes with
 unfoldable pub opened : Unit {0}
-unfolding sizeOf valueOf isInteger kept asBool asInteger asReal asCount maxLength cutString asString converted asTree constantValue zeroOf long emptyString defaultMember asIntegerTree builtIn isMember enumeratedValue expressionValue
+unfolding sizeOf valueOf isInteger kept asBool asInteger asReal asCount maxLength cutString uncutWord asString converted asTree constantValue zeroOf long emptyString defaultMember asIntegerTree builtIn isMember enumeratedValue expressionBy
 opened = tt

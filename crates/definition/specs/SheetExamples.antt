@@ -134,7 +134,7 @@ strings =
     ((8 ∷ 0 ∷ 0 ∷ 0 ∷ 1 ∷ []) ∷ (8 ∷ 0 ∷ 0 ∷ 3 ∷ 1 ∷ []) ∷ (8 ∷ 0 ∷ 3 ∷ 0 ∷ 1 ∷ []) ∷ []) ∷
     ((80 ∷ []) ∷ (89 ∷ []) ∷ (85 ∷ []) ∷ []) ∷ [])
 
--- its sheet under ranks
+-- its sheet under ranks; the literal of three characters meets a STRING[0], so that three are cut
 strings-sheet : ℕ → ℕ → ℕ → List ℕ
 strings-sheet a b c =
     3 ∷
@@ -144,7 +144,7 @@ strings-sheet a b c =
     0 ∷ 8 ∷ 0 ∷ 0 ∷ 0 ∷ 0 ∷
     c ∷ 0 ∷ 2 ∷
     0 ∷ 14 ∷ 0 ∷ 1 ∷ 0 ∷ 0 ∷
-    6 ∷ 8 ∷ 0 ∷ 0 ∷ 0 ∷ 0 ∷
+    6 ∷ 8 ∷ 0 ∷ 0 ∷ 0 ∷ 6 ∷
     2 ∷
     1 ∷ 0 ∷
     0 ∷ 1 ∷
@@ -285,6 +285,8 @@ check-rows =
     -- before 13: a node's name besides
     check-row strings (set (strings-sheet 1 0 1) 4 9) 12 ∷
     check-row strings (set (strings-sheet 1 0 2) 4 9) 13 ∷
+    -- the characters cut are compared too
+    check-row strings (set (strings-sheet 1 0 2) 33 0) 13 ∷
     -- ---- 13: a type's state and node
     check-row plain (with-type (0 ∷ 1 ∷ 0 ∷ [])) 13 ∷
     check-row plain (with-type (0 ∷ 2 ∷ 0 ∷ [])) 13 ∷

@@ -14,9 +14,10 @@ use Rattle.definition.specs.Base.{pick}
 use Rattle.definition.specs.Layout.{count, types}
 use Rattle.definition.specs.Records.{declarationKind}
 use Rattle.definition.specs.Ask.{Outcome, typeDefault}
-use Rattle.definition.specs.Defaults.{body}
+use Rattle.definition.specs.Starting.{body, remembered}
 use Rattle.definition.specs.Answers.{cleared}
-use Rattle.definition.specs.Resolve.{Look, known, unknown, onLook, Memo, at, empty, Ran, Resolver, run, resolve, asking, declaredBelow, resolveAll, remembered}
+use Rattle.definition.specs.Resolve as Resolve
+use Rattle.definition.specs.Resolve.{Look, known, unknown, onLook, Memo, at, empty, Ran, Resolver, run, resolve, asking, declaredBelow, resolveAll}
 use Rattle.laws.specs.Memo.{empty-long}
 use Rattle.lines.specs.declared.append.Stored.{Stored}
 use Rattle.lines.specs.declared.append.Stored.the-variants.{Ends, Full}
@@ -87,7 +88,7 @@ module _ (f : List ℕ) where
   declared-none = refl
 
   pub declared-all : declaredMemo f (count f types) ≡ remembered f
-  unfolding declaredMemo ran remembered resolveAll
+  unfolding declaredMemo ran Resolve.remembered resolveAll
   declared-all = refl
 
   one-more : (N : Memo) (t : ℕ) (b : Bool) → run (resolve (body f) (count f types)) N (asking (pick b [] (t ∷ []))) .memo ≡ pick b N (asked f N t)

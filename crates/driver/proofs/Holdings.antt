@@ -11,7 +11,7 @@ use lib.Seq.{getD-set-other, paste}
 use Rattle.definition.specs.Base.{pick}
 use Rattle.definition.specs.Layout.{count, types}
 use Rattle.definition.specs.Ask.{none, Outcome, Ask, done, ask}
-use Rattle.definition.specs.Defaults.{body}
+use Rattle.definition.specs.Starting.{body}
 use Rattle.definition.specs.Resolve.{Look, known, unknown, onLook, Memo, at, put, Ran, run, resolve}
 use Rattle.definition.specs.Peek.{got, wants, peek}
 use Rattle.laws.specs.Asks.{Asks, OnOk}

@@ -11,7 +11,7 @@ use denote.Enum.Declared.{tagOf}
 use borrow.Rule.Slice.PartMut.{putMid}
 use Rattle.definition.specs.Tree.{nodes, flatten}
 use Rattle.definition.specs.Ask.{ok, none, large, Outcome}
-use Rattle.definition.specs.Defaults.{body}
+use Rattle.definition.specs.Starting.{body}
 use Rattle.definition.specs.Resolve.{known, unknown, Memo, at, put}
 use Rattle.definition.specs.Peek.{Peek, got, wants, peek}
 use Rattle.laws.specs.Whole.{flatten-length}

@@ -12,8 +12,8 @@ use Rattle.definition.specs.Layout.{count, types, variables}
 use Rattle.definition.specs.Accept.{verdict}
 use Rattle.definition.specs.Tree.{flatten, treeWords}
 use Rattle.definition.specs.Ask.{Outcome, typeDefault}
-use Rattle.definition.specs.Defaults.{body, declaration}
-use Rattle.definition.specs.Resolve.{Look, known, unknown, Memo, at, resolve, typeOutcome, variableOutcome}
+use Rattle.definition.specs.Starting.{body, declaration, typeOutcome, variableOutcome}
+use Rattle.definition.specs.Resolve.{Look, known, unknown, Memo, at, resolve}
 use Rattle.definition.specs.Peek.{got, look, peek}
 use Rattle.definition.specs.Lines.{outcomeWords, typeLine}
 use Rattle.definition.specs.Uses.{uses, rising}

@@ -8,10 +8,11 @@ use borrow.Author.Needs.{needs}
 use Rattle.definition.specs.Layout.{count, types}
 use Rattle.definition.specs.Tree.{flatten, treeWords}
 use Rattle.definition.specs.Ask.{Outcome, Ask, typeDefault}
-use Rattle.definition.specs.Defaults.{body, declaration}
+use Rattle.definition.specs.Starting.{body, declaration, remembered, typeOutcome, variableOutcome}
 use Rattle.definition.specs.Depth.{levels}
 use Rattle.definition.specs.Answers.{lineWords, roomWords}
-use Rattle.definition.specs.Resolve.{Look, known, unknown, onLook, Memo, at, Ran, run, resolve, remembered, answer, typeOutcome, variableOutcome}
+use Rattle.definition.specs.Resolve as Resolve
+use Rattle.definition.specs.Resolve.{Look, known, unknown, onLook, Memo, at, Ran, run, resolve}
 use Rattle.definition.specs.Peek.{Peek, got, wants, peek}
 use Rattle.laws.specs.Asks.{OnOk}
 use Rattle.laws.specs.Values.{Small}
@@ -109,11 +110,11 @@ module _ {f : List ℕ} {r : Stored} {index store : List ℕ} (d : Declares f r 
   declared-held i = record { memo = remembered f; holding = declared-holding i }
 
   pub outcome-type : {e : ℕ} → r ≡ Ends e → (t : ℕ) {made : Built} {room : List ℕ} → TellsOf f (typeDefault t) index store e made room → Tells (typeOutcome f t) made room
-  unfolding typeOutcome answer ran
+  unfolding Resolve.typeOutcome Resolve.answer ran
   outcome-type i t h = h .gives (remembered f) (declared-holding i)
 
   pub outcome-variable : {e : ℕ} → r ≡ Ends e → (v : ℕ) {made : Built} {room : List ℕ} → TellsOf f (declaration f v) index store e made room → Tells (variableOutcome f v) made room
-  unfolding variableOutcome answer ran
+  unfolding Resolve.variableOutcome Resolve.answer ran
   outcome-variable i v h = h .gives (remembered f) (declared-holding i)
 
   module _ {source tables : List ℕ} {words : ℕ} (g : Given f source tables words) {n : ℕ} (a : Ample f n) (l : length store ≡ n) (i : r ≡ Full) where

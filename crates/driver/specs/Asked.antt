@@ -5,7 +5,8 @@ use lib.Dec.{eqb}
 use Rattle.definition.specs.Base.{pick}
 use Rattle.definition.specs.Layout.{count, types}
 use Rattle.definition.specs.Records.{declarationKind}
-use Rattle.definition.specs.Resolve.{Memo, at, onLook, empty, asking, declaredBelow, remembered}
+use Rattle.definition.specs.Resolve.{Memo, at, onLook, empty, asking, declaredBelow}
+use Rattle.definition.specs.Starting.{remembered}
 use Rattle.lines.specs.declared.append.Stored.{Stored}
 use Rattle.driver.specs.Driver.{Holding, ran, resolved, After}
 

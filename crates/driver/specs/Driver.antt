@@ -7,7 +7,7 @@ use lib.ListN.{length, getD}
 use Rattle.definition.specs.Base.{pick}
 use Rattle.definition.specs.Layout.{count, types}
 use Rattle.definition.specs.Ask.{Ask}
-use Rattle.definition.specs.Defaults.{body}
+use Rattle.definition.specs.Starting.{body}
 use Rattle.definition.specs.Resolve.{Look, known, unknown, Memo, at, put, Ran, run, resolve}
 use Rattle.definition.specs.Lines.{outcomeWords}
 use Rattle.definition.specs.Answers.{roomWords}

@@ -1,7 +1,7 @@
 // The building functions at the top, at the front of a room that has the work words.
 ghost use Prim.Native.Nat.{_≤_, _<_};
 ghost use lib.ListN.{length};
-ghost use Rattle.definition.specs.Defaults as Defaults;
+ghost use Rattle.definition.specs.Starting as Defaults;
 ghost use Rattle.definition.specs.Layout as Layout;
 ghost use Rattle.definition.specs.Answers.{roomWords};
 ghost use Rattle.definition.specs.Tree.{flatten};

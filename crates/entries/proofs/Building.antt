@@ -27,8 +27,10 @@ use Rattle.definition.specs.Tree.{Tree, Trees, node, tcons, head, parts, many, 
 use Rattle.definition.specs.Ask.{ok, none, large, Outcome, Ask, done, _>>=_, give, nothing, formed, gathered}
 use Rattle.definition.specs.Iec.{filled, assigned}
 use Rattle.definition.specs.Places.{leafPlace, fieldPlace}
-use Rattle.definition.specs.Defaults.{onFields, defaultOf, elementDefaults, expand, arrayBy, arrayOf}
-use Rattle.definition.specs.Defaults as Defs
+use Rattle.definition.specs.Parts.{onFields, elementDefaults, arrayBy}
+use Rattle.definition.specs.Defaults as Defaults
+use Rattle.definition.specs.Starting.{defaultOf, arrayOf}
+use Rattle.definition.specs.Starting as Defs
 use Rattle.definition.specs.Resolve.{Memo}
 use Rattle.definition.specs.Peek.{got, peek}
 use Rattle.definition.specs.Depth.{deepest, entryDepth}
@@ -103,7 +105,7 @@ formed-is ts = let z : 0 + nodesIn ts ≡ nodesIn ts = omega arith in rw z (go (
 
 array-is : (f : List ℕ) (p : Place) (first many : ℕ)
     → arrayOf f p first many ≡ (elementDefaults f (defaultOf f) p >>= λ ds. valuesOf f p first many ds) >>= λ ts. give (arrayTree ts)
-unfolding arrayOf arrayBy
+unfolding Defaults.arrayOf arrayBy
 array-is f p first many =
     ap (λ go. elementDefaults f (defaultOf f) p >>= go)
     (fun-ext (λ ds. ap (λ go. Defs.expandAll f (initsAt f first many) (leafPlace f p) ds 0 0 >>= go) (fun-ext (λ vs. formed-is (filled ds vs)))
@@ -241,11 +243,11 @@ apply-first f known store first many p old at end =
 
 members-is : (M : Memo) (f : List ℕ) (first k : ℕ) (p : Place) (fields : Trees)
     → peek M (Defs.members f (initsAt f first (suc k)) p fields) ≡ peek M (memberStep f first p fields (λ changed. Defs.members f (initsAt f (suc first) k) p changed))
-unfolding expand memberStep
+unfolding Defaults.expand memberStep
 members-is M f first k p fields = rw (inits-next f first k)
 
 members-none : (M : Memo) (f : List ℕ) (first : ℕ) (p : Place) (fields : Trees) → peek M (Defs.members f (initsAt f first 0) p fields) ≡ got (ok (structureTree fields))
-unfolding expand
+unfolding Defaults.expand
 members-none M f first p fields = rw (inits-none f first) (peek-give M (structureTree fields))
 
 structure-long : (s : List ℕ) (at : ℕ) (ts : Trees) (e : ℕ) → Stand s at (flatten (structureTree ts)) e → e ≡ at + 6 * nodes (structureTree ts)
@@ -450,13 +452,13 @@ abbrev plain : List ℕ
 plain = 0 ∷ 1 ∷ 4 ∷ 5 ∷ 6 ∷ 7 ∷ []
 
 repeat-nothing : (M : Memo) (f : List ℕ) (k link : ℕ) (p : Place) (t : Tree) → peek M (Defs.member f (onLink link (Init.defaults k) (λ e. Init.repeated k (initAt f e))) p t) ≡ got none
-unfolding expand
+unfolding Defaults.expand
 repeat-nothing M f k zero p t = peek-nothing M
 repeat-nothing M f k (suc l) p t = peek-nothing M
 
 member-is : (M : Memo) (f : List ℕ) (p : Place) (t : Tree) (x : Entry) → OneOf plain (tagOf entry-tags.the-type x)
     → peek M (Defs.member f (initFrom f (initAt f) x) p t) ≡ peek M (done (simpleOf f (p .shape) x))
-unfolding expand initFrom simpleOf
+unfolding Defaults.expand initFrom simpleOf
 member-is M f p t (entry.Constant number) o = refl
 member-is M f p t (entry.Enumerated value qualifier) o = refl
 member-is M f p t (entry.Array first many) o = absurd (miss plain 2 tt o)
@@ -467,7 +469,7 @@ member-is M f p t (entry.Repeat many inner) o = repeat-nothing M f many inner p 
 member-is M f p t entry.Unknown o = peek-nothing M ∙ sym (peek-done M none)
 
 member-array-is : (f : List ℕ) (first many : ℕ) (p : Place) (t : Tree) → Defs.member f (Init.array (initsAt f first many)) p t ≡ arrayOf f p first many
-unfolding expand arrayOf
+unfolding Defaults.expand Defaults.arrayOf
 member-array-is f first many p t = refl
 
 module _ {f source known store : List ℕ} (g : Ready f source known store) (e : ℕ) (h : e < count f entries) {x : Entry} (is : x ≡ entryAt f e)
@@ -502,7 +504,7 @@ named-fields (node h ts) go = refl
 
 structure-is : (M : Memo) (f : List ℕ) (is : Inits) (p : Place) (t : Tree)
     → peek M (Defs.member f (Init.structure is) p (named 0 t)) ≡ peek M (onFields t (λ fields. Defs.members f is p fields))
-unfolding expand
+unfolding Defaults.expand
 structure-is M f is p t = ap (peek M) (named-fields t (λ fields. Defs.members f is p fields))
 
 module _ (f known store : List ℕ) (first many : ℕ) (p : Place) {begin upto : ℕ} {old : List ℕ} {at : ℕ} {b : Built} {mid : List ℕ} (c : CopiesStructure begin upto old at b mid) where

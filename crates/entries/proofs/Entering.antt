@@ -21,7 +21,9 @@ use Rattle.definition.specs.Syntax.{Init, initFrom, initAt, initsAt}
 use Rattle.definition.specs.Tree.{Tree, Trees, many, one, rest}
 use Rattle.definition.specs.Ask.{none, done, _>>=_, nothing}
 use Rattle.definition.specs.Places.{leafPlace}
-use Rattle.definition.specs.Defaults.{added, copied, expand}
+use Rattle.definition.specs.Parts.{added, copied}
+use Rattle.definition.specs.Defaults as Defaults
+use Rattle.definition.specs.Starting.{expand}
 use Rattle.definition.specs.Resolve.{Memo}
 use Rattle.definition.specs.Peek.{peek}
 use Rattle.definition.specs.Depth.{deepest, entryDepth, entryDepthFrom}
@@ -154,7 +156,7 @@ simples = 0 ∷ 1 ∷ 2 ∷ 4 ∷ 5 ∷ 7 ∷ []
 simple-is : (M : Memo) (f : List ℕ) (below : ℕ → Init) (leaf : Place) (l : Filling) (ds : Trees) → many ds ≡ l .places → (x : Entry) → OneOf simples (tagOf entry-tags.the-type x)
     → ((y : Entry) → initFrom f below y ≡ initFrom f (initAt f) y)
     → peek M (expand f (initFrom f (initAt f) x) leaf ds (l .made) (l .size)) ≡ peek M (pushed l (done (simpleOf f (leaf .shape) x)))
-unfolding expand initFrom simpleOf
+unfolding Defaults.expand initFrom simpleOf
 simple-is M f below leaf l ds n (entry.Constant number) o b = rw n
 simple-is M f below leaf l ds n (entry.Enumerated value qualifier) o b = rw n
 simple-is M f below leaf l ds n (entry.Array first many) o b =
@@ -194,7 +196,7 @@ module _ {f source known store : List ℕ} (g : Ready f source known store) (e :
 -- ---- `push_repeat`
 module _ {f known store : List ℕ} (k link : ℕ) {leaf : Place} {l : Filling} {old : List ℕ} {at : ℕ} {r : Listed} {new : List ℕ} where
   pub repeats-defaults : link ≡ 0 → PushesDefaults k l old at r new → Repeats f known store k link leaf l old at r new
-  unfolding expand
+  unfolding Defaults.expand
   repeats-defaults q w = record { says = λ M kn ds y. rw q (w .says M ds (fillable-less y 12288 (omega arith))) }
 
   pub repeats-entry : (link ≡ 0 → ⊥) → RepeatsEntry f known store k (link - 1) leaf l old at r new → Repeats f known store k link leaf l old at r new
@@ -207,7 +209,7 @@ module _ {f known store : List ℕ} (k link : ℕ) {leaf : Place} {l : Filling} 
 -- ---- `repeat_entry`
 module _ {f known store : List ℕ} (k e : ℕ) {leaf : Place} {l : Filling} {at : ℕ} where
   pub entry-many : (old : List ℕ) → l .places < k → RepeatsEntry f known store k e leaf l old at listed.None old
-  unfolding expand
+  unfolding Defaults.expand
   entry-many old h =
       record { says = λ M kn ds y. let n = y .defaults .count in record { kept = refl; lists = rw (n, lt-leb k (l .places) h) (peek-nothing M) } }
 
@@ -216,7 +218,7 @@ module _ {f known store : List ℕ} (k e : ℕ) {leaf : Place} {l : Filling} {at
     repeated-is : (M : Memo) (ds : Trees) → many ds ≡ l .places
         → peek M (expand f (Init.repeated k (initAt f e)) leaf ds (l .made) (l .size))
         ≡ peek M (expand f (initAt f e) leaf (rest (l .made) ds) 0 0 >>= λ ts. copied k ts (l .places) (l .made) (l .size))
-    unfolding expand
+    unfolding Defaults.expand
     repeated-is M ds n = rw (n, le-leb k (l .places) h)
 
     pub entry-copied : RepeatsEntry f known store k e leaf l old at r' new

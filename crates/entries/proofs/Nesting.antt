@@ -13,8 +13,10 @@ use Rattle.definition.specs.Layout.{count, entries}
 use Rattle.definition.specs.Syntax.{Init, Inits, initAt, initsAt}
 use Rattle.definition.specs.Tree.{Tree, Trees, tnil, tcons, head, parts, many, one, rest}
 use Rattle.definition.specs.Ask.{Result, ok, none, large, Outcome, Ask, _>>=_, nothing, andMore}
-use Rattle.definition.specs.Defaults.{onFields, added, expand}
-use Rattle.definition.specs.Defaults as Defs
+use Rattle.definition.specs.Parts.{onFields, added}
+use Rattle.definition.specs.Defaults as Defaults
+use Rattle.definition.specs.Starting.{expand}
+use Rattle.definition.specs.Starting as Defs
 use Rattle.definition.specs.Resolve.{Memo}
 use Rattle.definition.specs.Peek.{got, wants, peek}
 use Rattle.definition.specs.Depth.{entryDepth}
@@ -62,11 +64,11 @@ then-same M m n go e = step (peek M n) refl
 module _ (M : Memo) (f : List ℕ) (is : Inits) (leaf : Place) (l : Filling) (ds : Trees) (n : many ds ≡ l .places) where
   structure-first : (t : Tree) (us : Trees) → rest (l .made) ds ≡ tcons t us
       → peek M (expand f (Init.structure is) leaf ds (l .made) (l .size)) ≡ peek M (pushed l (onFields t (λ fields. Defs.members f is leaf fields)))
-  unfolding expand
+  unfolding Defaults.expand
   structure-first t us q = rw (q, n)
 
   structure-last : rest (l .made) ds ≡ tnil → peek M (expand f (Init.structure is) leaf ds (l .made) (l .size)) ≡ got none
-  unfolding expand
+  unfolding Defaults.expand
   structure-last q = rw q (peek-nothing M)
 
 first-good : (k : ℕ) (ds : Trees) → Gathered 0 ds → (t : Tree) (us : Trees) → rest k ds ≡ tcons t us → Good t
@@ -155,13 +157,13 @@ all-first f known store first many leaf l old at =
 all-is : (M : Memo) (f : List ℕ) (first k : ℕ) (leaf : Place) (ds : Trees) (made size : ℕ)
     → peek M (Defs.expandAll f (initsAt f first (suc k)) leaf ds made size)
     ≡ peek M (andMore made size (expand f (initAt f first) leaf ds made size) (λ m s. Defs.expandAll f (initsAt f (suc first) k) leaf ds m s))
-unfolding expand
+unfolding Defaults.expand
 all-is M f first k leaf ds made size = rw (inits-next f first k)
 
 module _ {f known store : List ℕ} {first many : ℕ} {leaf : Place} {l : Filling} {old : List ℕ} {at i from to made size : ℕ} {s : List ℕ}
     (y : AllInv f known store first many leaf l old at i from to made size s) where
   pub all-all : many ≤ i → ExpandsAll f known store first many leaf l old at (listed.Ends to made size) s
-  unfolding expand
+  unfolding Defaults.expand
   all-all h =
       record {
         says = λ M k ds z room.

@@ -14,7 +14,8 @@ use Rattle.definition.specs.Tree.{Tree, Trees, many, flattenAll, named}
 use Rattle.definition.specs.Ask.{Result, Outcome, Ask, done, _>>=_, gathered}
 use Rattle.definition.specs.Iec.{filled, assigned}
 use Rattle.definition.specs.Places.{leafPlace, fieldPlace}
-use Rattle.definition.specs.Defaults.{onNamed, defaultOf, elementDefaults, expand, expandAll, members, member, arrayOf}
+use Rattle.definition.specs.Parts.{onNamed, elementDefaults}
+use Rattle.definition.specs.Starting.{defaultOf, expand, expandAll, members, member, arrayOf}
 use Rattle.definition.specs.Resolve.{Memo}
 use Rattle.definition.specs.Depth.{deepest, entryDepth}
 use Rattle.laws.specs.Gathers.{Gathered}

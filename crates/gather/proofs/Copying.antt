@@ -18,7 +18,7 @@ use mathlib.Core.Logic.{_⊎_, inl, inr, ⊎-elim}
 use Rattle.tree.proofs.part.Value.{the-type}
 use Rattle.definition.specs.Tree.{Tree, Trees, node, tnil, tcons, head, parts, many, nodes, nodesIn, flatten, flattenAll, headed, structureTree, one, times, rest, mostNodes}
 use Rattle.definition.specs.Ask.{Result, none, Ask, _>>=_}
-use Rattle.definition.specs.Defaults.{onFirst, added, copied}
+use Rattle.definition.specs.Parts.{onFirst, added, copied}
 use Rattle.definition.specs.Resolve.{Memo}
 use Rattle.definition.specs.Peek.{got, peek}
 use Rattle.laws.specs.Cases.{both}

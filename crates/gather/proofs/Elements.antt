@@ -19,7 +19,8 @@ use Rattle.definition.specs.Ask.{Result, ok, none, large, Ask, nothing, _>>=_}
 use Rattle.definition.specs.Accept.{elementsOf}
 use Rattle.definition.specs.Shapes.{onArray}
 use Rattle.definition.specs.Places.{elementPlace}
-use Rattle.definition.specs.Defaults.{flat, repeatedDefaults, elementDefaults, defaultOf}
+use Rattle.definition.specs.Parts.{flat, repeatedDefaults, elementDefaults}
+use Rattle.definition.specs.Starting.{defaultOf}
 use Rattle.definition.specs.Resolve.{Memo}
 use Rattle.definition.specs.Peek.{Peek, got, wants, peek}
 use Rattle.definition.specs.Depth.{shapeDepth}

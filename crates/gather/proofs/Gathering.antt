@@ -12,7 +12,7 @@ use borrow.Author.Tests.{le-leb, lt-leb}
 use lib.ListN.{length, take}
 use Rattle.definition.specs.Tree.{Tree, Trees, tnil, tcons, many, nodes, nodesIn, flattenAll, join, one, rest, mostNodes}
 use Rattle.definition.specs.Ask.{Result, ok, none, large, Ask, _>>=_, give, nothing, andMore}
-use Rattle.definition.specs.Defaults.{onFirst, added, defaulted}
+use Rattle.definition.specs.Parts.{onFirst, added, defaulted}
 use Rattle.definition.specs.Resolve.{Memo}
 use Rattle.definition.specs.Peek.{Peek, got, wants, peek}
 use Rattle.laws.specs.Gathers.{Gathered}

@@ -22,7 +22,7 @@ use Rattle.definition.specs.Syntax.{exprAt}
 use Rattle.definition.specs.Tree.{many, nodes, nodesIn, flatten, leaf, constantTree, one}
 use Rattle.definition.specs.Ask.{ok, none, Outcome, Ask, done}
 use Rattle.definition.specs.Scalar.{asTree, constantValue, enumeratedValue, expressionValue}
-use Rattle.definition.specs.Defaults.{added}
+use Rattle.definition.specs.Parts.{added}
 use Rattle.definition.specs.Resolve.{Memo}
 use Rattle.definition.specs.Peek.{got, peek}
 use Rattle.laws.specs.Accepted.{Accepted}

@@ -8,7 +8,7 @@ use Rattle.definition.specs.Base.{choose}
 use Rattle.definition.specs.Tree.{Tree, Trees, tnil, tcons, head, parts, many, nodes, nodesIn, flatten, flattenAll, arrayTree, structureTree, one, rest, mostNodes}
 use Rattle.definition.specs.Ask.{Result, ok, none, large, Outcome, Ask, _>>=_, give, nothing, gathered}
 use Rattle.definition.specs.Iec.{filled, assigned}
-use Rattle.definition.specs.Defaults.{onFirst, added, copied, defaulted}
+use Rattle.definition.specs.Parts.{onFirst, added, copied, defaulted}
 use Rattle.definition.specs.Resolve.{Memo}
 use Rattle.definition.specs.Peek.{got, wants, peek}
 use Rattle.laws.specs.Gathers.{Gathered}

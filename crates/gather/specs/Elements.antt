@@ -6,7 +6,8 @@ use lib.ListN.{length, take}
 use Rattle.definition.specs.declared.records.Place.{Place}
 use Rattle.definition.specs.Tree.{Trees}
 use Rattle.definition.specs.Ask.{Result, ok, Ask}
-use Rattle.definition.specs.Defaults.{defaultOf, elementDefaults}
+use Rattle.definition.specs.Parts.{elementDefaults}
+use Rattle.definition.specs.Starting.{defaultOf}
 use Rattle.definition.specs.Resolve.{Memo}
 use Rattle.definition.specs.Peek.{got, peek}
 use Rattle.laws.specs.Gathers.{Gathered}

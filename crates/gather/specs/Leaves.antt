@@ -11,7 +11,7 @@ use Rattle.definition.specs.Records.{constantAt, entryAt}
 use Rattle.definition.specs.Syntax.{exprAt}
 use Rattle.definition.specs.Tree.{Trees, one}
 use Rattle.definition.specs.Ask.{Result, none, Outcome, Ask, done, _>>=_}
-use Rattle.definition.specs.Defaults.{added}
+use Rattle.definition.specs.Parts.{added}
 use Rattle.definition.specs.Scalar.{asTree, constantValue, enumeratedValue, expressionValue}
 use Rattle.definition.specs.Resolve.{Memo}
 use Rattle.laws.specs.Asks.{OnOk}

@@ -13,7 +13,8 @@ use Rattle.definition.specs.Syntax.{initsAt}
 use Rattle.definition.specs.Tree.{Tree, Trees, tnil, flatten, flattenAll, treeWords}
 use Rattle.definition.specs.Ask.{Result, ok, Outcome, Ask, done, bind, _>>=_, give, nothing, typeDefault, andMore}
 use Rattle.definition.specs.Places.{fieldPlace}
-use Rattle.definition.specs.Defaults.{ifStated, applied, arrayOf, constantAs, enumeratedAs, referenceAs, defaultOf, initializer, declaration, overBase, field, isInstance, implicit, aliasDefaultBy}
+use Rattle.definition.specs.Parts.{ifStated, enumeratedAs, referenceAs, field, isInstance}
+use Rattle.definition.specs.Starting.{applied, arrayOf, constantAs, initializer, declaration, overBase, implicit, aliasDefaultBy}
 use Rattle.definition.specs.Resolve.{Memo}
 use Rattle.definition.specs.Peek.{Peek, peek}
 use Rattle.laws.specs.Links.{Link, Naming}

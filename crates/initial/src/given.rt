@@ -1,7 +1,7 @@
 // Arrays and member lists, as `entries` forms them.
 ghost use Prim.Native.Nat.{_+_, _*_, _≤_};
 ghost use lib.ListN.{length};
-ghost use Rattle.definition.specs.Defaults.{arrayOf};
+ghost use Rattle.definition.specs.Starting.{arrayOf};
 ghost use Rattle.definition.specs.Tree.{flatten, treeWords};
 ghost use Rattle.places.specs.Inside.{PlaceIn};
 ghost use Rattle.build.specs.Built.{Ready, Builds};

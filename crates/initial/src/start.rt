@@ -2,7 +2,7 @@
 ghost use Prim.Native.Nat.{_+_, _*_, _≤_, _<_};
 ghost use lib.ListN.{length};
 ghost use Rattle.definition.specs.Layout.{count, initializers};
-ghost use Rattle.definition.specs.Defaults as Defaults;
+ghost use Rattle.definition.specs.Starting as Defaults;
 ghost use Rattle.definition.specs.Tree.{flatten, treeWords};
 ghost use Rattle.places.specs.Inside.{PlaceIn};
 ghost use Rattle.build.specs.Built.{Ready, Builds};

@@ -2,8 +2,9 @@
 ghost use mathlib.Core.Path.{_≡_};
 ghost use Prim.Native.Nat.{_+_, _*_, _≤_, _<_};
 ghost use lib.ListN.{length};
-ghost use Rattle.definition.specs.Defaults as Defaults;
-ghost use Rattle.definition.specs.Defaults.{defaultOf, nameDefault, specDefault};
+ghost use Rattle.definition.specs.Starting as Defaults;
+ghost use Rattle.definition.specs.Parts.{nameDefault};
+ghost use Rattle.definition.specs.Starting.{defaultOf, specDefault};
 ghost use Rattle.definition.specs.Tree.{flatten, treeWords};
 ghost use Rattle.laws.specs.Links.{Link};
 ghost use Rattle.laws.specs.Used.{IsType};

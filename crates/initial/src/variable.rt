@@ -6,7 +6,7 @@ ghost use lib.Dec.{eqb};
 ghost use lib.ListN.{length};
 ghost use Rattle.definition.specs.Layout as Layout;
 ghost use Rattle.definition.specs.Layout.{variables};
-ghost use Rattle.definition.specs.Defaults as Defaults;
+ghost use Rattle.definition.specs.Starting as Defaults;
 ghost use Rattle.definition.specs.Tree.{flatten, treeWords};
 ghost use Rattle.records.specs.Starts.{StartsOf};
 ghost use Rattle.build.specs.Built.{Ready, Builds};

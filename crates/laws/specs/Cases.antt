@@ -7,7 +7,7 @@ use Rattle.definition.specs.declared.records.Shape.{Shape}
 use Rattle.definition.specs.declared.records.Shape.the-variants as shape
 use Rattle.definition.specs.Base.{pick, choose, onLink}
 use Rattle.definition.specs.Shapes.{onShape}
-use Rattle.definition.specs.Defaults.{ifStated}
+use Rattle.definition.specs.Parts.{ifStated}
 
 -- ---- tests
 pub never : {X : Type 0} → false ≡ true → X

@@ -10,8 +10,7 @@ use Prim.Native.Nat.{ℕ, _<_}
 use Rattle.definition.specs.Layout.{count, types, variables}
 use Rattle.definition.specs.Accept.{verdict}
 use Rattle.definition.specs.Ask.{Outcome, Ask}
-use Rattle.definition.specs.Defaults.{body, declaration}
-use Rattle.definition.specs.Resolve.{typeOutcome, variableOutcome}
+use Rattle.definition.specs.Starting.{body, declaration, typeOutcome, variableOutcome}
 use Rattle.definition.specs.Peek.{look}
 use Rattle.definition.specs.Uses.{uses, rising, ranked, circle, ranksOf, rankAt}
 use Rattle.definition.specs.Sheet.{sheetWords, checkAnswer}

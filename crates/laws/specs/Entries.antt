@@ -8,7 +8,9 @@ use Rattle.definition.specs.Ask.{done, gathered}
 use Rattle.definition.specs.Iec.{assigned}
 use Rattle.definition.specs.declared.records.Place.{Place}
 use Rattle.definition.specs.Places.{fieldPlace}
-use Rattle.definition.specs.Defaults.{onFields, defaultOf, expand, expandAll, members, member, applied, arrayOf}
+use Rattle.definition.specs.Parts.{onFields}
+use Rattle.definition.specs.Defaults as Defaults
+use Rattle.definition.specs.Starting.{defaultOf, expand, expandAll, members, member, applied, arrayOf}
 use Rattle.laws.specs.Cases.{on-choose}
 use Rattle.laws.specs.Links.{Leads}
 use Rattle.laws.specs.Whole.{lists-replaced}
@@ -23,7 +25,7 @@ module _ (K : Kept) (f : List ℕ) (N P : ℕ → Type 0) (leads : Leads f N P) 
   fields-assigned name t ts h g = lists-replaced (K .fields) name (named name t) ts (K .field name t h) g
 
   mutual
-    unfolding expand
+    unfolding Defaults.expand
 
     pub gives-expand : (i : Init) → Filling K N P (expand f i)
     gives-expand (Init.constant c) leaf defaults made size n g r =
@@ -87,6 +89,6 @@ module _ (K : Kept) (f : List ℕ) (N P : ℕ → Type 0) (leads : Leads f N P) 
       (gives-fields K P base (Listed K) (members f is place) (g .good) (g .few) (λ fields gf. gives-members is place fields n gf))
 
   pub gives-arrayOf : (place : Place) (first count : ℕ) → Near N P place → Makes K P (Value K) (arrayOf f place first count)
-  unfolding arrayOf
+  unfolding Defaults.arrayOf
   gives-arrayOf place first count n =
       gives-array K f N P leads (defaultOf f) (gives-default K f N P leads) place (expandAll f (initsAt f first count)) n (gives-expandAll (initsAt f first count))

@@ -6,7 +6,7 @@ use native.Mathlib.Omega.{arith}
 use Rattle.definition.specs.Layout.{word, count, types, variables}
 use Rattle.definition.specs.Records.{namedType}
 use Rattle.definition.specs.Accept.{verdict}
-use Rattle.definition.specs.Defaults.{body, declaration}
+use Rattle.definition.specs.Starting.{body, declaration}
 use Rattle.definition.specs.Uses.{uses}
 use Rattle.laws.specs.Every.{Each, each-two}
 use Rattle.laws.specs.Links.{Leads, each-any, link-any}

@@ -10,8 +10,8 @@ use Rattle.definition.specs.Base.{pick}
 use Rattle.definition.specs.Layout.{word, expressions}
 use Rattle.definition.specs.Tree.{Tree, Trees, node, tnil, tcons, head, parts, leaf, headed, arrayTree, structureTree, named, one}
 use Rattle.definition.specs.Ask.{ok, none, large, Outcome}
-use Rattle.definition.specs.Defaults.{flat}
-use Rattle.definition.specs.Resolve.{typeOutcome, variableOutcome}
+use Rattle.definition.specs.Parts.{flat}
+use Rattle.definition.specs.Starting.{typeOutcome, variableOutcome}
 use Rattle.definition.specs.Complete.{writtenNode, written, writtenAll, writtenParts, asSigned, completion}
 use Rattle.laws.specs.Asks.{OnOk}
 use Rattle.laws.specs.Cases.{on-pick}

@@ -8,7 +8,7 @@ use lib.Dec.{eqb, leb, lit≤}
 use borrow.Author.Tests.{leb-true}
 use Rattle.definition.specs.Tree.{Tree, Trees, leaf, node, tnil, tcons, head, parts, many, nodes, nodesIn, named, headed, arrayTree, structureTree, one, times, rest, mostNodes}
 use Rattle.definition.specs.Ask.{Result, ok, none, large, Outcome, Ask, done, _>>=_, give, nothing, formed, gathered, andMore}
-use Rattle.definition.specs.Defaults.{onFields, onFirst, onNamed, flat, repeatedDefaults, added, copied, defaulted, field, structured}
+use Rattle.definition.specs.Parts.{onFields, onFirst, onNamed, flat, repeatedDefaults, added, copied, defaulted, field, structured}
 use Rattle.definition.specs.Sheet.{partsOf}
 use Rattle.laws.specs.Asks.{Asks, OnOk, asks-map, asks-then}
 use Rattle.laws.specs.Cases.{on-pick, on-choose}

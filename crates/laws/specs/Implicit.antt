@@ -16,7 +16,9 @@ use Rattle.definition.specs.Ask.{Result, ok, none, large, Outcome, Ask, done, b
 use Rattle.definition.specs.Scalar.{builtIn}
 use Rattle.definition.specs.Shapes.{onShape, onArray}
 use Rattle.definition.specs.Places.{bare, placeOf, typedPlace, elementPlace, firstNamed, blockFieldType, fieldDeclaration, declaredType, declaredElement, structureFieldPlace, fieldPlace, namesIn, blockFieldNames}
-use Rattle.definition.specs.Defaults.{Starts, ifStated, flat, repeatedDefaults, elementDefaults, arrayBy, fieldsBy, structured, implicitBy, defaultBy, implicitUpTo, implicit, defaultOf}
+use Rattle.definition.specs.Parts.{Starts, ifStated, flat, repeatedDefaults, elementDefaults, arrayBy, fieldsBy, structured, defaultBy}
+use Rattle.definition.specs.Defaults as Defaults
+use Rattle.definition.specs.Starting.{implicitBy, implicitUpTo, implicit, defaultOf}
 use Rattle.laws.specs.Links.{Link}
 use Rattle.laws.specs.Accepted.{Accepted}
 use Rattle.laws.specs.Pointed.{ShapePointed, shape-pointed, named-of}
@@ -89,7 +91,7 @@ module _ (f : List ℕ) (P : Place → Type 0) (d g : Starts) (same : (p : Place
     same-as shape.Unknown e = refl
 
     same-implicit : implicitBy f d place ≡ implicitBy f g place
-    unfolding implicitBy
+    unfolding Defaults.implicitBy
     same-implicit = same-as (place .shape) refl
 
 -- ---- the places inside a place of shape n have a type or a lower shape
@@ -189,7 +191,7 @@ module _ (f : List ℕ) (a : Accepted f) where
       same-implicit f (Lower f n) (defaultBy (implicitUpTo f k)) (defaultBy (implicitUpTo f m)) (same-default n k m ih) place (inner-element f n place i) (inner-field f n place i)
 
   implicit-fuel : (k m n : ℕ) → n < k → n < m → n < count f shapes → (place : Place) → place .shape ≡ shapeAt f n → implicitUpTo f k place ≡ implicitUpTo f m place
-  unfolding implicitUpTo
+  unfolding Defaults.implicitUpTo
   implicit-fuel zero m n h l i place e = absurd (omega arith)
   implicit-fuel (suc k) zero n h l i place e = absurd (omega arith)
   implicit-fuel (suc k) (suc m) n h l i place e =
@@ -197,7 +199,7 @@ module _ (f : List ℕ) (a : Accepted f) where
 
   -- the implicit default of a place whose shape points into the file, where the places inside start at their defaults
   pub implicit-is : (place : Place) → ShapePointed f (count f shapes) (place .shape) → implicit f place ≡ implicitBy f (defaultOf f) place
-  unfolding implicit implicitUpTo defaultOf
+  unfolding Defaults.implicit Defaults.implicitUpTo Defaults.defaultOf
   implicit-is place i =
       same-next (count f shapes) (count f shapes) (suc (count f shapes))
       (λ s b p q. implicit-fuel (count f shapes) (suc (count f shapes)) s b (omega arith) b p q) place i

@@ -16,7 +16,9 @@ use Rattle.definition.specs.Tree.{nullTree, referenceTree, mostNodes}
 use Rattle.definition.specs.Ask.{ok, none, large, Outcome, Ask, done, _>>=_, give, nothing, typeDefault}
 use Rattle.definition.specs.declared.records.Place.{Place}
 use Rattle.definition.specs.Places.{placeOf, fieldPlace, variablePlace}
-use Rattle.definition.specs.Defaults.{ifStated, implicit, defaultOf, applied, field, constantAs, enumeratedAs, referenceAs, initializerBy, initializer, declaration, nameDefault, specDefault, aliasDefaultBy, overBase, subrangeDefault, elementsFrom, isInstance, variableField, instanceFrom, bodyBy, body}
+use Rattle.definition.specs.Parts.{ifStated, field, enumeratedAs, referenceAs, nameDefault, isInstance}
+use Rattle.definition.specs.Defaults as Defaults
+use Rattle.definition.specs.Starting.{implicit, defaultOf, applied, constantAs, initializerBy, initializer, declaration, specDefault, aliasDefaultBy, overBase, subrangeDefault, elementsFrom, variableField, instanceFrom, bodyBy, body}
 use Rattle.definition.specs.Uses.{linked, namedUse, initializerUses, variableUses, declarationUses}
 use Rattle.laws.specs.Asks.{OnOk, asks-bind}
 use Rattle.laws.specs.Cases.{on-pick, on-choose, on-link, on-stated}
@@ -31,7 +33,7 @@ use Rattle.laws.specs.Entries.{gives-applied, gives-arrayOf}
 -- ---- values that ask for nothing
 module _ (K : Kept) (f : List ℕ) (P : ℕ → Type 0) where
   gives-constantAs : (place : Place) (c : ℕ) → Makes K P (Value K) (constantAs f place c)
-  unfolding constantAs
+  unfolding Defaults.constantAs
   gives-constantAs place c = leaf-constantValue (Value K) (value-leaf K) f (place .shape) (constantAt f c)
 
   gives-enumeratedAs : (place : Place) (e : ℕ) → Makes K P (Value K) (enumeratedAs f place e)
@@ -52,7 +54,7 @@ gives-name K P w h = on-link (Makes K P (Value K)) w nothing typeDefault (gives-
 module _ (K : Kept) (f : List ℕ) (N P : ℕ → Type 0) (leads : Leads f N P) where
   -- ---- what an initializer gives a place
   pub gives-initializerBy : (place : Place) (i : Initializer) → Below P place → Makes K P (Value K) (initializerBy f place i)
-  unfolding initializerBy
+  unfolding Defaults.initializerBy
   gives-initializerBy place i b = go i
     where
       start : Makes K P (Value K) (defaultOf f place)
@@ -86,12 +88,12 @@ module _ (K : Kept) (f : List ℕ) (N P : ℕ → Type 0) (leads : Leads f N P) 
       go init.Unknown = gives-nothing K P (Value K)
 
   pub gives-initializer : (i : ℕ) (place : Place) → Below P place → Makes K P (Value K) (initializer f i place)
-  unfolding initializer
+  unfolding Defaults.initializer
   gives-initializer i place b = gives-initializerBy place (initializerAt f i) b
 
   -- a variable asks for its type alone: what its initializer names is not looked at
   pub gives-declaration : (v : ℕ) → Link P (word f variables v 2) → Makes K P (Value K) (declaration f v)
-  unfolding declaration
+  unfolding Defaults.declaration
   gives-declaration v h =
       on-choose (Makes K P (Value K)) (eqb (word f variables v 1) 2 || eqb (word f variables v 1) 3) _ _ (λ e. gives-nothing K P (Value K))
       (λ e. gives-then K P (Below P) (Value K) (done (variablePlace f v (word f variables v 3))) (initializer f (word f variables v 3))
@@ -99,13 +101,13 @@ module _ (K : Kept) (f : List ℕ) (N P : ℕ → Type 0) (leads : Leads f N P) 
 
   -- ---- aliases
   pub gives-spec : (place : Place) (w : ℕ) → Near N P place → Each P (namedUse w) → Makes K P (Value K) (specDefault f place w)
-  unfolding specDefault
+  unfolding Defaults.specDefault
   gives-spec place w n e =
       on-choose (Makes K P (Value K)) (eqb w inline) _ _ (λ b. gives-implicit K f N P leads place n) (λ b. gives-name K P w (each-name P w b e))
 
   pub gives-aliasBy : (place : Place) (i : ℕ) (k : Initializer) → Near N P place → Each P (initializerUses f i) → (Naming k → Link P (namedType f i))
       → Makes K P (Value K) (aliasDefaultBy f place i k)
-  unfolding aliasDefaultBy initializerUses
+  unfolding Defaults.aliasDefaultBy initializerUses
   gives-aliasBy place i k n e = go k
     where
       inner : Makes K P (Value K) (implicit f place)
@@ -146,7 +148,7 @@ module _ (K : Kept) (f : List ℕ) (N P : ℕ → Type 0) (leads : Leads f N P) 
   gives-overBase place start large h = tt
 
   pub gives-subrange : (place : Place) (w start : ℕ) → Near N P place → Each P (namedUse w) → Makes K P (Value K) (subrangeDefault f place w start)
-  unfolding subrangeDefault
+  unfolding Defaults.subrangeDefault
   gives-subrange place w start n e =
       on-choose (Makes K P (Value K)) (eqb w 0) _ _ (λ b. gives-nothing K P (Value K))
       (λ b. asks-bind P (λ d o. OnOk (Value K) o) (OnOk (Value K)) (OnOk (Value K)) (specDefault f place w) (overBase f place start) (gives-spec place w n e)
@@ -154,7 +156,7 @@ module _ (K : Kept) (f : List ℕ) (N P : ℕ → Type 0) (leads : Leads f N P) 
 
   -- elements ask through their places alone
   pub gives-elementsFrom : (place : Place) (e k made size : ℕ) → Near N P place → suc size ≤ mostNodes → Makes K P (Fields K size) (elementsFrom f place e k made size)
-  unfolding elementsFrom
+  unfolding Defaults.elementsFrom
   gives-elementsFrom place e zero made size n r = within-none P _ (K .fields) size r
   gives-elementsFrom place e (suc k) made size n r =
       within-more P _ (K .fields) made size _ (elementsFrom f place (suc e) k)
@@ -165,14 +167,14 @@ module _ (K : Kept) (f : List ℕ) (N P : ℕ → Type 0) (leads : Leads f N P) 
       (λ m s q. gives-elementsFrom place (suc e) k m s n q)
 
   pub gives-variableField : (v size : ℕ) → Link P (word f variables v 2) → Makes K P (Fields K size) (variableField f v size)
-  unfolding variableField
+  unfolding Defaults.variableField
   gives-variableField v size h =
       on-choose (Makes K P (Fields K size)) (eqb (word f variables v 0) 0) _ _ (λ e. gives-nothing K P (Fields K size))
       (λ e. gives-then K P (Value K) (Fields K size) (declaration f v) (field size (word f variables v 0)) (gives-declaration v h)
       (λ t g. gives-field K P size (word f variables v 0) t (g .good)))
 
   pub gives-instanceFrom : (v k made size : ℕ) → Each P (variableUses f v k) → suc size ≤ mostNodes → Makes K P (Fields K size) (instanceFrom f v k made size)
-  unfolding instanceFrom variableUses
+  unfolding Defaults.instanceFrom variableUses
   gives-instanceFrom v zero made size e r = within-none P _ (K .fields) size r
   gives-instanceFrom v (suc k) made size e r =
       let apart = each-apart P (linked (word f variables v 2) ++ initializerUses f (word f variables v 3)) (variableUses f (suc v) k) e in
@@ -185,7 +187,7 @@ module _ (K : Kept) (f : List ℕ) (N P : ℕ → Type 0) (leads : Leads f N P) 
   -- ---- the default of a type
   gives-bodyBy : (t : ℕ) (place : Place) (d : Declaration) → Near N P place → Link P (aliasBase f t) → Each P (declarationUses f t d)
       → ((i : ℕ) → d ≡ decl.Simple (suc i) → Naming (initializerAt f i) → Link P (namedType f i)) → Makes K P (Value K) (bodyBy f t place d)
-  unfolding bodyBy declarationUses
+  unfolding Defaults.bodyBy declarationUses
   gives-bodyBy t place decl.Nothing n a e h =
       on-stated (Makes K P (Value K)) (aliasBase f t) _ typeDefault (gives-implicit K f N P leads place n) (λ d q. gives-type K P d (link-to P (aliasBase f t) d q a))
   gives-bodyBy t place (decl.Simple zero) n a e h = gives-nothing K P (Value K)
@@ -205,7 +207,7 @@ module _ (K : Kept) (f : List ℕ) (N P : ℕ → Type 0) (leads : Leads f N P) 
   gives-bodyBy t place decl.Unknown n a e h = gives-nothing K P (Value K)
 
   pub body-asks : (t : ℕ) → N t → Makes K P (Value K) (body f t)
-  unfolding body
+  unfolding Defaults.body
   body-asks t n =
       gives-bodyBy t (placeOf f t) (declarationAt f t) (near-of f N P leads t n) (alias-link f N P leads t n) (declared-uses f N P leads t n)
       (λ i e. leads .names t i n e)

@@ -12,7 +12,7 @@ use Rattle.definition.specs.Base.{pick, choose, every}
 use Rattle.definition.specs.Layout.{count, types, variables}
 use Rattle.definition.specs.Accept.{need, verdict}
 use Rattle.definition.specs.Ask.{ok, none, large, Outcome}
-use Rattle.definition.specs.Resolve.{typeOutcome}
+use Rattle.definition.specs.Starting.{typeOutcome}
 use Rattle.definition.specs.Lines.{outcomeWords, typeLine, variableLine, completedLine}
 use Rattle.definition.specs.Uses.{rising, uses}
 use Rattle.definition.specs.Sheet.{linesFrom, sheetWith, typeCut, variableCut, completedCut, Section, section, unreadable, onSection, readSection, Sheet, Read, read, no, readSheet, sheetRank, ranksRise, sameWords, linesRight, onRead, checkAnswer}

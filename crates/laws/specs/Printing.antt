@@ -12,7 +12,7 @@ use borrow.Author.Tests.{ltb-false, lt-ltb}
 use Rattle.definition.specs.Base.{pick, choose}
 use Rattle.definition.specs.Layout.{count, types, variables}
 use Rattle.definition.specs.Ask.{ok, none, large, Outcome}
-use Rattle.definition.specs.Resolve.{typeOutcome, variableOutcome}
+use Rattle.definition.specs.Starting.{typeOutcome, variableOutcome}
 use Rattle.definition.specs.Complete.{Completed, completed, left, completion}
 use Rattle.definition.specs.Lines.{outcomeWords, completedWords, typeLine, variableLine, completedLine}
 use Rattle.definition.specs.Uses.{Ranking, ranked, circle, ranksOf, rankAt}

@@ -1,7 +1,7 @@
 -- Every line's tree has at most 2,048 nodes and is one whole tree, in any file. Assumes nothing.
 use mathlib.Core.List.{List}
 use Prim.Native.Nat.{ℕ}
-use Rattle.definition.specs.Resolve.{typeOutcome, variableOutcome}
+use Rattle.definition.specs.Starting.{typeOutcome, variableOutcome}
 use Rattle.laws.specs.Asks.{OnOk}
 use Rattle.laws.specs.Outcomes.{outcome-held, variable-held}
 use Rattle.laws.specs.Values.{Small}

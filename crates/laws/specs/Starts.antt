@@ -10,7 +10,9 @@ use Rattle.definition.specs.Iec.{filled}
 use Rattle.definition.specs.Scalar.{builtIn}
 use Rattle.definition.specs.declared.records.Place.{Place}
 use Rattle.definition.specs.Places.{elementPlace, leafPlace, fieldPlace, namesIn, blockFieldNames}
-use Rattle.definition.specs.Defaults.{Starts, flat, elementDefaults, Fills, arrayBy, field, fieldsBy, structured, implicitBy, defaultBy, implicitUpTo, implicit, defaultOf}
+use Rattle.definition.specs.Parts.{Starts, flat, elementDefaults, Fills, arrayBy, field, fieldsBy, structured, defaultBy}
+use Rattle.definition.specs.Defaults as Defaults
+use Rattle.definition.specs.Starting.{implicitBy, implicitUpTo, implicit, defaultOf}
 use Rattle.laws.specs.Cases.{on-stated, on-shape}
 use Rattle.laws.specs.Links.{link-to, Leads}
 use Rattle.laws.specs.Nearby.{Near, Below, below-near, below-element, near-leaf, below-field}
@@ -63,7 +65,7 @@ module _ (K : Kept) (f : List ℕ) (N P : ℕ → Type 0) (leads : Leads f N P) 
         (λ m s q. gives-fieldsBy place names m s h q)
 
     pub gives-implicitBy : (place : Place) → Near N P place → Makes K P (Value K) (implicitBy f default place)
-    unfolding implicitBy
+    unfolding Defaults.implicitBy
     gives-implicitBy place h =
         let single : Makes K P (Value K) (done (builtIn f (place .shape))) = leaf-builtIn (Value K) (value-leaf K) f (place .shape) in
         let fields : (names : List ℕ) → Makes K P (Value K) (structured (fieldsBy f default place names)) =
@@ -85,14 +87,14 @@ module _ (K : Kept) (f : List ℕ) (N P : ℕ → Type 0) (leads : Leads f N P) 
       (λ d e. gives-type K P d (link-to P (place .id) d e (b .type)))
 
   gives-implicitUpTo : (k : ℕ) (place : Place) → Near N P place → Makes K P (Value K) (implicitUpTo f k place)
-  unfolding implicitUpTo
+  unfolding Defaults.implicitUpTo
   gives-implicitUpTo zero place h = gives-nothing K P (Value K)
   gives-implicitUpTo (suc k) place h = gives-implicitBy (defaultBy (implicitUpTo f k)) (gives-defaultBy (implicitUpTo f k) (gives-implicitUpTo k)) place h
 
   pub gives-implicit : (place : Place) → Near N P place → Makes K P (Value K) (implicit f place)
-  unfolding implicit
+  unfolding Defaults.implicit
   gives-implicit place h = gives-implicitUpTo (suc (count f shapes)) place h
 
   pub gives-default : Starting K P (defaultOf f)
-  unfolding defaultOf
+  unfolding Defaults.defaultOf
   gives-default place b = gives-defaultBy (implicit f) gives-implicit place b

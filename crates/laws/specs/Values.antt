@@ -16,7 +16,7 @@ use Rattle.definition.specs.Tree.{Tree, head, many, nodes, leaf, constantTree, 
 use Rattle.definition.specs.Ask.{Result, ok, none, large}
 use Rattle.definition.specs.Iec.{inRange, between}
 use Rattle.definition.specs.Shapes.{isReference}
-use Rattle.definition.specs.Scalar.{isInteger, kept, asBool, asInteger, asReal, asCount, maxLength, onResult, cutString, asString, converted, asTree, constantValue, zeroOf, emptyString, defaultMember, asIntegerTree, builtIn, enumeratedValue, expressionValue, valueOf, isMember}
+use Rattle.definition.specs.Scalar.{isInteger, kept, asBool, asInteger, asReal, asCount, maxLength, onResult, cutString, asString, converted, asTree, constantValue, zeroOf, emptyString, defaultMember, asIntegerTree, builtIn, enumeratedValue, expressionValue, expressionBy, valueOf, isMember}
 use Rattle.definition.specs.Sheet.{partsOf}
 use Rattle.laws.specs.Asks.{OnOk}
 use Rattle.laws.specs.Cases.{both, either, on-pick, on-shape}
@@ -94,7 +94,7 @@ fits-count kind signed bits c h =
 fits-cut : (f : List ℕ) (length width first many : ℕ) → OnOk Fits (cutString f length width first many)
 unfolding cutString
 fits-cut f length width first many =
-    result-on (λ n. Unit {0}) Fits (maxLength f length) _ (any-ok (maxLength f length)) (λ most u. fits-of 8 0 _ _ width (lit≤ tt))
+    result-on (λ n. Unit {0}) Fits (maxLength f length) _ (any-ok (maxLength f length)) (λ most u. fits-of 8 0 _ _ _ (lit≤ tt))
 
 fits-string : (f : List ℕ) (length width : ℕ) (c : Constant) → OnOk Fits (asString f length width c)
 unfolding asString
@@ -163,7 +163,7 @@ module _ (T : Tree → Type 0) (leaves : (kind sign low high width : ℕ) → ki
       (λ a b. tt) (λ e a b. tt) tt tt tt
 
   pub leaf-expressionValue : (f : List ℕ) (s : Shape) (x : Expr) → OnOk T (expressionValue f s x)
-  unfolding expressionValue
+  unfolding expressionBy
   leaf-expressionValue f s (Expr.constant c) = leaf-constantValue f s c
   leaf-expressionValue f s (Expr.enumerated value qualifier) = leaf-enumeratedValue f s value qualifier
   leaf-expressionValue f s (Expr.parentheses x) = leaf-expressionValue f s x

@@ -14,7 +14,7 @@ use Rattle.definition.specs.Layout.{count, types, variables}
 use Rattle.definition.specs.Accept.{verdict}
 use Rattle.definition.specs.Tree.{Tree, nodes, flatten}
 use Rattle.definition.specs.Ask.{ok, none, large, Outcome}
-use Rattle.definition.specs.Resolve.{typeOutcome, variableOutcome}
+use Rattle.definition.specs.Starting.{typeOutcome, variableOutcome}
 use Rattle.definition.specs.Complete.{Completed, completed, left, completion}
 use Rattle.definition.specs.Lines.{outcomeWords, completedWords, typeLine, variableLine, completedLine}
 use Rattle.definition.specs.Uses.{rising, uses}

@@ -12,9 +12,11 @@ use Rattle.definition.specs.Base.{choose}
 use Rattle.definition.specs.Layout.{word, count, shapes, variables, types}
 use Rattle.definition.specs.Tree.{Tree, nodes, flatten}
 use Rattle.definition.specs.Ask.{Result, ok, none, large, Outcome, done, bind, _>>=_, nothing}
-use Rattle.definition.specs.Defaults.{initializer, declaration, body}
+use Rattle.definition.specs.Defaults as Defaults
+use Rattle.definition.specs.Starting.{initializer, body, variableOutcome, remembered}
 use Rattle.definition.specs.Places.{variablePlace}
-use Rattle.definition.specs.Resolve.{variableOutcome, answer, run, resolve, remembered}
+use Rattle.definition.specs.Resolve as Resolve
+use Rattle.definition.specs.Resolve.{run, resolve}
 use Rattle.laws.specs.Accepted.{Accepted, variable-points}
 use Rattle.laws.specs.Asks.{OnOk}
 use Rattle.laws.specs.Depths.{few-shapes}
@@ -37,7 +39,7 @@ use Rattle.memory.specs.Trees.{TreeIn, InWords, Laid}
 
 -- ---- a variable without a place has no tree
 no-place : (f : List ℕ) (v : ℕ) → variablePlace f v (word f variables v 3) ≡ none → variableOutcome f v ≡ none
-unfolding variableOutcome answer run declaration _>>=_ bind nothing
+unfolding Resolve.variableOutcome Resolve.answer run Defaults.declaration _>>=_ bind nothing
 no-place f v e = go (eqb (word f variables v 1) 2 || eqb (word f variables v 1) 3)
   where
     go : (b : Bool)

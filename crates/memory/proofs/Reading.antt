@@ -12,7 +12,7 @@ use denote.Enum.Declared.{tagOf}
 use Rattle.definition.specs.declared.answers.TreeAnswer.{TreeAnswer}
 use Rattle.definition.specs.declared.answers.TreeAnswer.the-variants as tree
 use Rattle.definition.specs.Ask.{none, large, Outcome}
-use Rattle.definition.specs.Resolve.{variableOutcome}
+use Rattle.definition.specs.Starting.{variableOutcome}
 use Rattle.definition.specs.Answers.{refuses, answered, over, treeSays}
 use Rattle.build.specs.declared.built.Built.{Built}
 use Rattle.build.specs.declared.built.Built.the-variants as built

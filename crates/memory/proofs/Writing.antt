@@ -11,7 +11,7 @@ use borrow.Author.Tests.{ne-eqb, eq-eqb, le-leb, lt-leb}
 use denote.Enum.Declared.{tagOf}
 use Rattle.definition.specs.Tree.{nodes}
 use Rattle.definition.specs.Ask.{none, large, Outcome}
-use Rattle.definition.specs.Resolve.{variableOutcome}
+use Rattle.definition.specs.Starting.{variableOutcome}
 use Rattle.definition.specs.Answers.{refuses, answered, over}
 use Rattle.laws.specs.Puts.{Puts}
 use Rattle.laws.specs.Whole.{flatten-length}

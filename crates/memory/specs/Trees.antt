@@ -7,7 +7,7 @@ use lib.ListN.{length}
 use Rattle.definition.specs.declared.answers.TreeAnswer.{TreeAnswer}
 use Rattle.definition.specs.Tree.{Tree, nodes, flatten}
 use Rattle.definition.specs.Ask.{ok, Outcome}
-use Rattle.definition.specs.Resolve.{variableOutcome}
+use Rattle.definition.specs.Starting.{variableOutcome}
 use Rattle.definition.specs.Answers.{treeSays}
 use Rattle.tree.specs.Words.{Stand}
 use Rattle.memory_definition.specs.declared.answer.MemoryAnswer.{MemoryAnswer}

@@ -3,7 +3,7 @@ ghost use mathlib.Core.Path.{_≡_};
 ghost use Prim.Native.Nat.{_<_};
 ghost use lib.ListN.{length};
 ghost use Rattle.definition.specs.Layout as Layout;
-ghost use Rattle.definition.specs.Resolve.{variableOutcome};
+ghost use Rattle.definition.specs.Starting.{variableOutcome};
 ghost use Rattle.definition.specs.Answers.{cleared, treeSays};
 ghost use Rattle.laws.specs.Accepted.{Accepted};
 ghost use Rattle.records.specs.Starts.{StartsOf};

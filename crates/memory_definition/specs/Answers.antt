@@ -9,7 +9,7 @@ use lib.ListN.{length}
 use Rattle.definition.specs.Base.{pick}
 use Rattle.definition.specs.Accept.{need}
 use Rattle.definition.specs.Ask.{ok, none, large, Outcome}
-use Rattle.definition.specs.Resolve.{variableOutcome}
+use Rattle.definition.specs.Starting.{variableOutcome}
 use Rattle.definition.specs.Answers.{Says, refuses, says, packed, answered, variableRefused, over}
 use Rattle.memory_definition.specs.declared.answer.MemoryAnswer.{MemoryAnswer}
 use Rattle.memory_definition.specs.declared.answer.MemoryAnswer.the-variants as memory

@@ -9,7 +9,7 @@ use Rattle.definition.specs.declared.records.Shape.{Shape}
 use Rattle.definition.specs.declared.records.Expression.{Expression}
 use Rattle.definition.specs.declared.records.Expression.the-variants as expression
 use Rattle.definition.specs.Ask.{ok}
-use Rattle.definition.specs.Scalar.{expressionValue}
+use Rattle.definition.specs.Scalar.{expressionValue, expressionBy}
 use Rattle.definition.specs.Syntax.{Expr, exprFrom}
 use Rattle.definition.specs.Tree.{expressionTree}
 
@@ -29,7 +29,7 @@ Other e = OneOf others (tagOf the-type e)
 
 module _ (f : List ℕ) (s : Shape) (below : ℕ → Expr) (x : ℕ) where
   pub kept-over : (i : ℕ) (e : Expression) → Composed e → ok (expressionTree x) ≡ expressionValue f s (Expr.conversion x (exprFrom f below i e))
-  unfolding expressionValue exprFrom
+  unfolding expressionBy exprFrom
   kept-over i (expression.Constant number) h = absurd (miss composed 0 tt h)
   kept-over i (expression.Enumerated entry) h = absurd (miss composed 1 tt h)
   kept-over i (expression.Parentheses inner) h = refl
@@ -40,7 +40,7 @@ module _ (f : List ℕ) (s : Shape) (below : ℕ → Expr) (x : ℕ) where
   kept-over i expression.Unknown h = refl
 
   pub kept : (e : Expression) → Other e → ok (expressionTree x) ≡ expressionValue f s (exprFrom f below x e)
-  unfolding expressionValue exprFrom
+  unfolding expressionBy exprFrom
   kept (expression.Constant number) h = absurd (miss others 0 tt h)
   kept (expression.Enumerated entry) h = absurd (miss others 1 tt h)
   kept (expression.Parentheses inner) h = absurd (miss others 2 tt h)

@@ -3,7 +3,7 @@ ghost use mathlib.Core.Path.{_≡_};
 ghost use lib.ListN.{length};
 ghost use Rattle.definition.specs.Layout as Layout;
 ghost use Rattle.definition.specs.Answers.{completedSays, cleared, completedAnswer, completedOut};
-ghost use Rattle.definition.specs.Resolve.{variableOutcome};
+ghost use Rattle.definition.specs.Starting.{variableOutcome};
 ghost use Rattle.records.specs.Starts.{StartsOf};
 ghost use Rattle.resolver.specs.Trees.{Passed};
 ghost use Rattle.resolver.specs.Completed.{withKind, WritesCompleted, AnswersCompleted};

@@ -3,7 +3,7 @@ ghost use mathlib.Core.Path.{_≡_};
 ghost use lib.ListN.{length};
 ghost use Rattle.definition.specs.Layout as Layout;
 ghost use Rattle.definition.specs.Answers.{treeSays, cleared, typeTreeAnswer, typeTreeOut, variableTreeAnswer, variableTreeOut};
-ghost use Rattle.definition.specs.Resolve.{typeOutcome, variableOutcome};
+ghost use Rattle.definition.specs.Starting.{typeOutcome, variableOutcome};
 ghost use Rattle.driver.specs.Told.{Tells};
 ghost use Rattle.resolver.specs.Trees.{Writes, Answers, Passed};
 use crate::refusal::refusal;

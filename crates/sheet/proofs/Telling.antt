@@ -12,7 +12,7 @@ use mir.Val.{Fits}
 use Rattle.definition.specs.Layout.{count, types, variables}
 use Rattle.definition.specs.Tree.{flatten}
 use Rattle.definition.specs.Ask.{Outcome}
-use Rattle.definition.specs.Defaults.{body, declaration}
+use Rattle.definition.specs.Starting.{body, declaration}
 use Rattle.definition.specs.Peek.{Peek, look}
 use Rattle.definition.specs.Uses.{uses, rising}
 use Rattle.definition.specs.Sheet.{sheetRank, ranksRise}

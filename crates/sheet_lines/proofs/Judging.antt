@@ -14,8 +14,7 @@ use Rattle.definition.specs.Layout.{count, types, variables}
 use Rattle.definition.specs.Accept.{verdict}
 use Rattle.definition.specs.Tree.{flatten}
 use Rattle.definition.specs.Ask.{ok, none, large, Outcome}
-use Rattle.definition.specs.Defaults.{body, declaration}
-use Rattle.definition.specs.Resolve.{typeOutcome}
+use Rattle.definition.specs.Starting.{body, declaration, typeOutcome}
 use Rattle.definition.specs.Peek.{look, got, peek}
 use Rattle.definition.specs.Lines.{outcomeWords, typeLine, variableLine, completedLine}
 use Rattle.definition.specs.Uses.{uses, rising}

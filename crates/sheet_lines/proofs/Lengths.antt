@@ -12,7 +12,7 @@ use Rattle.definition.specs.Layout.{count, types, variables, mostRecords, limit
 use Rattle.definition.specs.Accept.{verdict}
 use Rattle.definition.specs.Tree.{Tree}
 use Rattle.definition.specs.Ask.{ok, none, large, Outcome}
-use Rattle.definition.specs.Defaults.{declaration}
+use Rattle.definition.specs.Starting.{declaration}
 use Rattle.definition.specs.Peek.{look}
 use Rattle.definition.specs.Complete.{Completed, completed, left, completion}
 use Rattle.definition.specs.Lines.{outcomeWords, completedWords}

@@ -6,7 +6,7 @@ use Prim.Native.Nat.{ℕ, suc, _+_}
 use lib.Seq.{slice}
 use Rattle.definition.specs.Base.{every}
 use Rattle.definition.specs.Layout.{count, types, variables}
-use Rattle.definition.specs.Defaults.{body, declaration}
+use Rattle.definition.specs.Starting.{body, declaration}
 use Rattle.definition.specs.Peek.{look}
 use Rattle.definition.specs.Complete.{completion}
 use Rattle.definition.specs.Lines.{outcomeWords, completedWords}

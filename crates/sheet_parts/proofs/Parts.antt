@@ -8,8 +8,7 @@ use borrow.Author.Needs.{needs}
 use Rattle.definition.specs.Layout.{count, types, variables}
 use Rattle.definition.specs.Tree.{Tree, nodes, flatten}
 use Rattle.definition.specs.Ask.{ok, none, large, Outcome}
-use Rattle.definition.specs.Defaults.{declaration}
-use Rattle.definition.specs.Resolve.{typeOutcome, variableOutcome}
+use Rattle.definition.specs.Starting.{declaration, typeOutcome, variableOutcome}
 use Rattle.definition.specs.Complete.{left, completion}
 use Rattle.definition.specs.Lines.{outcomeWords, completedWords, typeLine, variableLine, completedLine}
 use Rattle.laws.specs.Sizes.{variable-small}

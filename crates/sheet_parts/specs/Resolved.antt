@@ -3,8 +3,8 @@ use mathlib.Core.List.{List, _∷_}
 use Prim.Native.Nat.{ℕ, _<_}
 use Rattle.definition.specs.Layout.{count, types, variables}
 use Rattle.definition.specs.Tree.{flatten}
-use Rattle.definition.specs.Defaults.{declaration}
-use Rattle.definition.specs.Resolve.{known, typeOutcome, variableOutcome}
+use Rattle.definition.specs.Starting.{declaration, typeOutcome, variableOutcome}
+use Rattle.definition.specs.Resolve.{known}
 use Rattle.definition.specs.Lines.{typeLine}
 use Rattle.lines.specs.Look.{rememberedOf}
 use Rattle.lines.specs.Memory.{Looks}

@@ -11,7 +11,7 @@ use Rattle.definition.specs.declared.answers.CompletedAnswer.the-variants as co
 use Rattle.definition.specs.Base.{pick, choose}
 use Rattle.definition.specs.Tree.{Tree, nodes, nodeWords, mostNodes}
 use Rattle.definition.specs.Ask.{ok, none, large, Outcome}
-use Rattle.definition.specs.Resolve.{variableOutcome}
+use Rattle.definition.specs.Starting.{variableOutcome}
 use Rattle.definition.specs.Complete.{Completed, completed, left, completion}
 use Rattle.definition.specs.Answers.{refuses, says, completedSays, packed, valueCode, variableRefused, slotAnswer, completionAnswer, completedAnswer}
 use Rattle.laws.specs.Asks.{OnOk}

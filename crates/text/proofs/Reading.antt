@@ -7,7 +7,7 @@ use lib.ListN.{length, getD, drop, replicate, length-append, length-drop, List·
 use lib.Seq.{take-append-le, drop-append-le, drop-append-seam}
 use Rattle.definition.specs.Layout.{count, types, variables}
 use Rattle.definition.specs.Ask.{ok, none, large, Outcome}
-use Rattle.definition.specs.Resolve.{typeOutcome, variableOutcome}
+use Rattle.definition.specs.Starting.{typeOutcome, variableOutcome}
 use Rattle.definition.specs.Complete.{Completed, completed, left, completion}
 use Rattle.definition.specs.Lines.{outcomeWords, completedWords, typeLine, variableLine, completedLine}
 use Rattle.definition.specs.Sheet.{linesFrom, sheetWith}

@@ -12,7 +12,7 @@ use borrow.Author.Tests.{le-leb, lt-ltb, le-ltb, eqb-true, ltb-true, ltb-false, 
 use Rattle.definition.specs.Base.{pick, choose}
 use Rattle.definition.specs.Tree.{Tree, Trees, node, tnil, tcons, head, parts, many, nodes, nodesIn, flatten, flattenAll, named, join, rest, replaced}
 use Rattle.definition.specs.Ask.{Outcome, Ask, nothing}
-use Rattle.definition.specs.Defaults.{onNamed}
+use Rattle.definition.specs.Parts.{onNamed}
 use Rattle.definition.specs.Sheet.{partsOf}
 use Rattle.laws.specs.Whole.{Good, Goods, flatten-length, flattenAll-join, many-rest}
 use Rattle.tree.specs.declared.extent.Extent.the-variants.{Ends}

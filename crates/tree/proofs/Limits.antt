@@ -12,7 +12,7 @@ use borrow.Author.Tests.{leb-true}
 use Rattle.definition.specs.Base.{pick, choose}
 use Rattle.definition.specs.Tree.{Trees, many, nodesIn, join, times, mostNodes}
 use Rattle.definition.specs.Ask.{Result, ok, none, large, done, bind, _>>=_, onOk, give, nothing, gathered, andMore}
-use Rattle.definition.specs.Defaults.{added, copied}
+use Rattle.definition.specs.Parts.{added, copied}
 use Rattle.tree.specs.declared.limit.Added.{Added}
 use Rattle.tree.specs.declared.limit.Added.the-variants as more
 use Rattle.tree.specs.Limit.{addedOf, onFits, copiedOf}

@@ -27,7 +27,9 @@ use Rattle.definition.specs.Shapes.{onShape, onArray}
 use Rattle.definition.specs.Resolve.{Memo}
 use Rattle.definition.specs.Peek.{Peek, got, wants, peek}
 use Rattle.definition.specs.Places.{recordedBlock, elementPlace, fieldPlace, namesIn, blockNames, blockFieldNames}
-use Rattle.definition.specs.Defaults.{ifStated, flat, repeatedDefaults, elementDefaults, arrayBy, field, fieldsBy, structured, implicitBy, defaultBy, implicit, defaultOf}
+use Rattle.definition.specs.Parts.{ifStated, flat, repeatedDefaults, elementDefaults, arrayBy, field, fieldsBy, structured, defaultBy}
+use Rattle.definition.specs.Defaults as Defaults
+use Rattle.definition.specs.Starting.{implicitBy, implicit, defaultOf}
 use Rattle.laws.specs.Accepted.{Accepted}
 use Rattle.laws.specs.Used.{IsType}
 use Rattle.laws.specs.Implicit.{implicit-is}
@@ -63,11 +65,11 @@ module _ {A : Type 0} {f known store : List ℕ} {words : A → List ℕ} {at : 
 -- ---- `default_of`
 module _ (f : List ℕ) (place : Place) where
   is-implicit : place .id ≡ 0 → defaultOf f place ≡ implicit f place
-  unfolding defaultOf defaultBy
+  unfolding Defaults.defaultOf defaultBy
   is-implicit e = ap (λ (i : ℕ). ifStated i (λ u. implicit f place) typeDefault) e
 
   is-typed : (place .id ≡ 0 → ⊥) → defaultOf f place ≡ typeDefault (place .id - 1)
-  unfolding defaultOf defaultBy
+  unfolding Defaults.defaultOf defaultBy
   is-typed n = let z : place .id ≡ suc (place .id - 1) = omega (arith, n) in ap (λ (i : ℕ). ifStated i (λ u. implicit f place) typeDefault) z
 
   module _ {known store : List ℕ} {at : ℕ} {old : List ℕ} {r : Built} {new : List ℕ} where
@@ -134,7 +136,7 @@ module _ {f : List ℕ} (a : Accepted f) {place : Place} (i : PlaceIn f place) w
       (λ u. done (builtIn f (place .shape)))
 
   open-implicit : implicitBy f (defaultOf f) place ≡ shaped (place .shape)
-  unfolding implicitBy
+  unfolding Defaults.implicitBy
   open-implicit = refl
 
   by-shape : implicit f place ≡ shaped (place .shape)

@@ -18,7 +18,7 @@ use denote.Enum.Declared.{tagOf}
 use Rattle.definition.specs.Base.{pick, choose}
 use Rattle.definition.specs.Tree.{Tree, Trees, node, tnil, tcons, head, parts, many, nodes, nodesIn, flatten, flattenAll, headed, arrayTree, one, times, join, mostNodes, treeWords}
 use Rattle.definition.specs.Ask.{Result, ok, large, Ask, done, give}
-use Rattle.definition.specs.Defaults.{flat, repeatedDefaults}
+use Rattle.definition.specs.Parts.{flat, repeatedDefaults}
 use Rattle.definition.specs.Resolve.{Memo}
 use Rattle.definition.specs.Peek.{got, peek}
 use Rattle.laws.specs.Whole.{Good, nodes-some, nodes-parts, nodesIn-one, nodesIn-times, many-one, many-times, flatten-length, flattenAll-one}

@@ -20,7 +20,9 @@ use Rattle.definition.specs.Tree.{Tree, flatten, treeWords}
 use Rattle.definition.specs.Ask.{Result, ok, none, large, Outcome, Ask, done, bind, give, nothing, typeDefault, _>>=_}
 use Rattle.definition.specs.Resolve.{Memo}
 use Rattle.definition.specs.Peek.{Peek, got, wants, peek}
-use Rattle.definition.specs.Defaults.{ifStated, implicit, constantAs, nameDefault, specDefault, aliasDefaultBy, overBase, subrangeDefault}
+use Rattle.definition.specs.Parts.{ifStated, nameDefault}
+use Rattle.definition.specs.Defaults as Defaults
+use Rattle.definition.specs.Starting.{implicit, constantAs, specDefault, aliasDefaultBy, overBase, subrangeDefault}
 use Rattle.laws.specs.Accepted.{Accepted}
 use Rattle.laws.specs.Links.{Link, Naming}
 use Rattle.laws.specs.Used.{IsType}
@@ -120,39 +122,39 @@ module _ (f : List ℕ) (i : ℕ) (place : Place) {v : Initializer} (q : v ≡ i
   module _ {known store : List ℕ} {at : ℕ} {old : List ℕ} {r : Built} {new : List ℕ} where
     pub alias-string : {value long width : ℕ} → v ≡ init.String value long width → Builds f known store flatten (statedOr f stated.Constant place value (implicit f place)) at old r new
         → Builds f known store flatten (aliasDefault f i place) at old r new
-    unfolding aliasDefaultBy statedOr statedAs
+    unfolding Defaults.aliasDefaultBy statedOr statedAs
     alias-string {value} e h = same (statedOr f stated.Constant place value (implicit f place)) (aliasDefault f i place) (by-view e) h
 
     module _ {name : ℕ} (w : name ≡ word f initializers i 1) where
       pub alias-subrange : {value : ℕ} → v ≡ init.Subrange value → Builds f known store flatten (specDefault f place name) at old r new → Builds f known store flatten (aliasDefault f i place) at old r new
-      unfolding aliasDefaultBy namedType
+      unfolding Defaults.aliasDefaultBy namedType
       alias-subrange e h = same (specDefault f place name) (aliasDefault f i place) (by-view e ∙ rw (← w)) h
 
       pub alias-simple : {value : ℕ} → v ≡ init.Simple value → Builds f known store flatten (statedOr f stated.Constant place value (nameDefault name)) at old r new → Builds f known store flatten (aliasDefault f i place) at old r new
-      unfolding aliasDefaultBy statedOr statedAs namedType
+      unfolding Defaults.aliasDefaultBy statedOr statedAs namedType
       alias-simple {value} e h = same (statedOr f stated.Constant place value (nameDefault name)) (aliasDefault f i place) (by-view e ∙ rw (← w)) h
 
       module _ {first many : ℕ} where
         module _ (h : Builds f known store flatten (membersOver f place first many (nameDefault name)) at old r new) where
           pub alias-block : v ≡ init.FunctionBlock first many → Builds f known store flatten (aliasDefault f i place) at old r new
-          unfolding aliasDefaultBy membersOver namedType
+          unfolding Defaults.aliasDefaultBy membersOver namedType
           alias-block e = same (membersOver f place first many (nameDefault name)) (aliasDefault f i place) (by-view e ∙ rw (← w)) h
 
           pub alias-structure : v ≡ init.Structure first many → Builds f known store flatten (aliasDefault f i place) at old r new
-          unfolding aliasDefaultBy membersOver namedType
+          unfolding Defaults.aliasDefaultBy membersOver namedType
           alias-structure e = same (membersOver f place first many (nameDefault name)) (aliasDefault f i place) (by-view e ∙ rw (← w)) h
 
         pub alias-array : v ≡ init.Array first many → Builds f known store flatten (arrayOr f place first many (specDefault f place name)) at old r new
             → Builds f known store flatten (aliasDefault f i place) at old r new
-        unfolding aliasDefaultBy arrayOr namedType
+        unfolding Defaults.aliasDefaultBy arrayOr namedType
         alias-array e h = same (arrayOr f place first many (specDefault f place name)) (aliasDefault f i place) (by-view e ∙ rw (← w)) h
 
   pub alias-none : {known store : List ℕ} {at : ℕ} {old : List ℕ} → v ≡ init.Unknown → Builds f known store flatten (aliasDefault f i place) at old None old
-  unfolding aliasDefaultBy
+  unfolding Defaults.aliasDefaultBy
   alias-none e = no-value (aliasDefault f i place) (by-view e)
 
   implicit-view : (w : Initializer) → OneOf implicitly (tagOf the-type w) → aliasDefaultBy f place i w ≡ implicit f place
-  unfolding aliasDefaultBy
+  unfolding Defaults.aliasDefaultBy
   implicit-view init.Nothing h = refl
   implicit-view init.Interface h = refl
   implicit-view (init.Subrange value) h = absurd (miss implicitly 2 tt h)
@@ -223,12 +225,12 @@ module _ {f : List ℕ} {place : Place} {start at : ℕ} {old : List ℕ} where
 -- ---- `subrange_default`
 module _ (f : List ℕ) (place : Place) (name start : ℕ) where
   pub subrange-none : {known store : List ℕ} {at : ℕ} {old : List ℕ} → name ≡ 0 → Builds f known store flatten (subrangeDefault f place name start) at old None old
-  unfolding subrangeDefault
+  unfolding Defaults.subrangeDefault
   subrange-none e = no-value (subrangeDefault f place name start) (rw (eq-eqb name 0 e))
 
   pub subrange-over : {known store : List ℕ} {at : ℕ} {old : List ℕ} {base : Built} {mid : List ℕ} {r : Built} {new : List ℕ} → (name ≡ 0 → ⊥)
       → Builds f known store flatten (specDefault f place name) at old base mid → Over f place start at base mid r new → Builds f known store flatten (subrangeDefault f place name start) at old r new
-  unfolding subrangeDefault
+  unfolding Defaults.subrangeDefault
   subrange-over n x y =
       record {
         gives = λ M m. rw (ne-eqb name 0 n, peek-bind M (specDefault f place name) (overBase f place start)) (y .gives M (peek M (specDefault f place name)) (x .gives M m));

@@ -22,7 +22,9 @@ use Rattle.definition.specs.Tree.{Tree, Trees, flatten, nullTree, treeWords}
 use Rattle.definition.specs.Ask.{Result, ok, none, Outcome, Ask, done, _>>=_, bind, give, nothing, andMore}
 use Rattle.definition.specs.Places.{placeOf}
 use Rattle.definition.specs.Uses.{namedUse, initializerUses, declarationUses}
-use Rattle.definition.specs.Defaults.{implicit, specDefault, subrangeDefault, structured, field, declaration, variableField, elementsFrom, instanceFrom, isInstance, bodyBy, body}
+use Rattle.definition.specs.Parts.{structured, field, isInstance}
+use Rattle.definition.specs.Defaults as Defaults
+use Rattle.definition.specs.Starting.{implicit, specDefault, subrangeDefault, declaration, variableField, elementsFrom, instanceFrom, bodyBy, body}
 use Rattle.laws.specs.Accepted.{Accepted, count-most, few-types, type-points, link-in}
 use Rattle.laws.specs.Every.{Each}
 use Rattle.laws.specs.Links.{Link, each-name, initializer-apart, uses-apart}
@@ -50,7 +52,7 @@ unfolding _>>=_ bind nothing
 then-none g = refl
 
 part-of-variable : (f : List ℕ) (place : Place) (v size : ℕ) → partAsk f place variables v size ≡ variableField f v size
-unfolding partAsk partStart variableField variableStart
+unfolding partAsk partStart Defaults.variableField variableStart
 part-of-variable f place v size = go (eqb (word f variables v 0) 0)
   where
     go : (b : Bool) → (choose b (λ u. nothing) (λ u. declaration f v) >>= field size (word f variables v 0)) ≡ choose b (λ u. nothing) (λ u. declaration f v >>= field size (word f variables v 0))
@@ -58,14 +60,14 @@ part-of-variable f place v size = go (eqb (word f variables v 0) 0)
     go false = refl
 
 of-elements : (f : List ℕ) (place : Place) (e k made size : ℕ) → partsFrom f place elements e k made size ≡ elementsFrom f place e k made size
-unfolding partsFrom elementsFrom isPart elementStart
+unfolding partsFrom Defaults.elementsFrom isPart elementStart
 of-elements f place e zero made size = refl
 of-elements f place e (suc k) made size =
     ap (λ (m : Ask (Result Trees)). andMore made size m (partsFrom f place elements (suc e) k)) (part-of-element f place e size)
     ∙ ap (andMore made size (elementStart f place e >>= field size (word f elements e 0))) (fun-ext (λ m. fun-ext (λ s. of-elements f place (suc e) k m s)))
 
 of-variables : (f : List ℕ) (place : Place) (v k made size : ℕ) → partsFrom f place variables v k made size ≡ instanceFrom f v k made size
-unfolding partsFrom instanceFrom isPart
+unfolding partsFrom Defaults.instanceFrom isPart
 of-variables f place v zero made size = refl
 of-variables f place v (suc k) made size = go (isInstance (word f variables v 1)) (λ m s. of-variables f place (suc v) k m s)
   where
@@ -217,47 +219,47 @@ module _ (f : List ℕ) (t : ℕ) (place : Place) {d : Declaration} where
 
   module _ {known store : List ℕ} {at : ℕ} {old : List ℕ} {r : Built} {new : List ℕ} where
     pub body-nothing : {base : ℕ} → d ≡ decl.Nothing → base ≡ word f Layout.types t 1 → Builds f known store flatten (baseDefault f place base) at old r new → Builds f known store flatten (bodyBy f t place d) at old r new
-    unfolding bodyBy baseDefault aliasBase
+    unfolding Defaults.bodyBy baseDefault aliasBase
     body-nothing {base} e q h = same (baseDefault f place base) (bodyBy f t place d) (by-view e ∙ rw (← q)) h
 
     pub body-simple : {start : ℕ} → d ≡ decl.Simple start → Builds f known store flatten (simpleDefault f place start) at old r new → Builds f known store flatten (bodyBy f t place d) at old r new
-    unfolding bodyBy simpleDefault aliasDefault
+    unfolding Defaults.bodyBy simpleDefault aliasDefault
     body-simple {start} e h = same (simpleDefault f place start) (bodyBy f t place d) (by-view e) h
 
     pub body-subrange : {name start : ℕ} → d ≡ decl.Subrange name start → Builds f known store flatten (subrangeDefault f place name start) at old r new → Builds f known store flatten (bodyBy f t place d) at old r new
-    unfolding bodyBy
+    unfolding Defaults.bodyBy
     body-subrange {name} {start} e h = same (subrangeDefault f place name start) (bodyBy f t place d) (by-view e) h
 
     pub body-string : {start : ℕ} → d ≡ decl.String start → Builds f known store flatten (statedOr f stated.Constant place start (implicit f place)) at old r new → Builds f known store flatten (bodyBy f t place d) at old r new
-    unfolding bodyBy statedOr statedAs
+    unfolding Defaults.bodyBy statedOr statedAs
     body-string {start} e h = same (statedOr f stated.Constant place start (implicit f place)) (bodyBy f t place d) (by-view e) h
 
     pub body-array : {name first many : ℕ} → d ≡ decl.Array name first many → Builds f known store flatten (arrayOr f place first many (specDefault f place name)) at old r new
         → Builds f known store flatten (bodyBy f t place d) at old r new
-    unfolding bodyBy arrayOr
+    unfolding Defaults.bodyBy arrayOr
     body-array {name} {first} {many} e h = same (arrayOr f place first many (specDefault f place name)) (bodyBy f t place d) (by-view e) h
 
     pub body-structure : {first many : ℕ} → d ≡ decl.Structure first many → Builds f known store flatten (structured (partsFrom f place 7 first many)) at old r new
         → Builds f known store flatten (bodyBy f t place d) at old r new
-    unfolding bodyBy
+    unfolding Defaults.bodyBy
     body-structure {first} {many} e h = same (structured (partsFrom f place 7 first many)) (bodyBy f t place d) (by-view e ∙ structure-is f place first many) h
 
     pub body-block : {first many : ℕ} → d ≡ decl.FunctionBlock first many → Builds f known store flatten (structured (instanceFrom f first many)) at old r new
         → Builds f known store flatten (bodyBy f t place d) at old r new
-    unfolding bodyBy
+    unfolding Defaults.bodyBy
     body-block {first} {many} e h = same (structured (instanceFrom f first many)) (bodyBy f t place d) (by-view e) h
 
     pub body-reference : {name : ℕ} → d ≡ decl.Reference name → Lays (give nullTree) at old r new → Builds f known store flatten (bodyBy f t place d) at old r new
-    unfolding bodyBy
+    unfolding Defaults.bodyBy
     body-reference e h = laid (give nullTree) (bodyBy f t place d) (by-view e) h
 
   pub body-unknown : {known store : List ℕ} {at : ℕ} {old : List ℕ} → d ≡ decl.Unknown → Builds f known store flatten (bodyBy f t place d) at old None old
-  unfolding bodyBy
+  unfolding Defaults.bodyBy
   body-unknown e = no-value (bodyBy f t place d) (by-view e)
 
 module _ (f : List ℕ) (t : ℕ) (place : Place) where
   implicit-view : (d : Declaration) → OneOf implicitly (tagOf the-type d) → bodyBy f t place d ≡ implicit f place
-  unfolding bodyBy
+  unfolding Defaults.bodyBy
   implicit-view decl.Nothing k = absurd (miss implicitly 0 tt k)
   implicit-view (decl.Simple start) k = absurd (miss implicitly 1 tt k)
   implicit-view (decl.Subrange name start) k = absurd (miss implicitly 2 tt k)
@@ -288,7 +290,7 @@ module _ (f : List ℕ) (t : ℕ) {place : Place} (p : place ≡ placeOf f t) wh
     own-room at n h = rw (p, q) h
 
     pub own-body : {known store : List ℕ} {at : ℕ} {old : List ℕ} {r : Built} {new : List ℕ} → Builds f known store flatten (bodyBy f t place d) at old r new → Builds f known store flatten (body f t) at old r new
-    unfolding body
+    unfolding Defaults.body
     own-body h = same (bodyBy f t place d) (body f t) (rw (p, q)) h
 
 pub ruleset laws =

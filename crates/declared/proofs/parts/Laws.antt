@@ -17,7 +17,8 @@ use Rattle.definition.specs.Ask.{Result, ok, none, Outcome, Ask, done, nothing,
 use Rattle.definition.specs.Resolve.{Memo}
 use Rattle.definition.specs.Peek.{Peek, got, peek}
 use Rattle.definition.specs.Places.{fieldPlace}
-use Rattle.definition.specs.Defaults.{initializer, field, isInstance}
+use Rattle.definition.specs.Parts.{field, isInstance}
+use Rattle.definition.specs.Starting.{initializer}
 use Rattle.definition.specs.Depth.{deepest}
 use Rattle.laws.specs.Accepted.{Accepted, element-points}
 use Rattle.laws.specs.Depths.{deepest-at}

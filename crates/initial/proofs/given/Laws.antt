@@ -14,7 +14,7 @@ use Rattle.definition.specs.Layout.{count, entries}
 use Rattle.definition.specs.Syntax.{initsAt}
 use Rattle.definition.specs.Tree.{Tree, node, head, parts, many, flatten, structureTree}
 use Rattle.definition.specs.Ask.{Outcome, Ask}
-use Rattle.definition.specs.Defaults.{members, arrayOf}
+use Rattle.definition.specs.Starting.{members, arrayOf}
 use Rattle.definition.specs.Resolve.{Memo}
 use Rattle.definition.specs.Peek.{peek}
 use Rattle.laws.specs.Steps.{peek-nothing}

@@ -15,7 +15,8 @@ use Rattle.definition.specs.Layout.{count, initializers}
 use Rattle.definition.specs.Records.{initializerAt}
 use Rattle.definition.specs.Tree.{flatten, treeWords}
 use Rattle.definition.specs.Ask.{Result, ok, none, Outcome, Ask, done, give, nothing, _>>=_}
-use Rattle.definition.specs.Defaults.{defaultOf, initializerBy, initializer}
+use Rattle.definition.specs.Defaults as Defaults
+use Rattle.definition.specs.Starting.{defaultOf, initializerBy, initializer}
 use Rattle.laws.specs.Accepted.{Accepted}
 use Rattle.laws.specs.Pointed.{InitializerPointed, initializer-pointed}
 use Rattle.build.specs.declared.built.Built.{Built}
@@ -93,61 +94,61 @@ noValue = 1 ∷ 12 ∷ 13 ∷ 14 ∷ 15 ∷ []
 
 module _ (f : List ℕ) (i : ℕ) (place : Place) {v : Initializer} (q : v ≡ initializerAt f i) where
   by-view : {w : Initializer} → v ≡ w → initializer f i place ≡ initializerBy f place w
-  unfolding initializer
+  unfolding Defaults.initializer
   by-view e = ap (initializerBy f place) (sym q ∙ e)
 
   module _ {known store : List ℕ} {at : ℕ} {old : List ℕ} {r : Built} {new : List ℕ} where
     pub init-nothing : v ≡ init.Nothing → Builds f known store flatten (defaultOf f place) at old r new → Builds f known store flatten (initializer f i place) at old r new
-    unfolding initializerBy
+    unfolding Defaults.initializerBy
     init-nothing e h = same (defaultOf f place) (initializer f i place) (by-view e) h
 
     module _ {value : ℕ} where
       module _ (h : Builds f known store flatten (statedOr f stated.Constant place value (defaultOf f place)) at old r new) where
         pub init-subrange : v ≡ init.Subrange value → Builds f known store flatten (initializer f i place) at old r new
-        unfolding initializerBy statedOr statedAs
+        unfolding Defaults.initializerBy statedOr statedAs
         init-subrange e = same (statedOr f stated.Constant place value (defaultOf f place)) (initializer f i place) (by-view e) h
 
         pub init-simple : v ≡ init.Simple value → Builds f known store flatten (initializer f i place) at old r new
-        unfolding initializerBy statedOr statedAs
+        unfolding Defaults.initializerBy statedOr statedAs
         init-simple e = same (statedOr f stated.Constant place value (defaultOf f place)) (initializer f i place) (by-view e) h
 
         pub init-string : {long width : ℕ} → v ≡ init.String value long width → Builds f known store flatten (initializer f i place) at old r new
-        unfolding initializerBy statedOr statedAs
+        unfolding Defaults.initializerBy statedOr statedAs
         init-string e = same (statedOr f stated.Constant place value (defaultOf f place)) (initializer f i place) (by-view e) h
 
       module _ (h : Builds f known store flatten (statedOr f stated.Enumerated place value (defaultOf f place)) at old r new) where
         pub init-values : v ≡ init.EnumeratedValues value → Builds f known store flatten (initializer f i place) at old r new
-        unfolding initializerBy statedOr statedAs
+        unfolding Defaults.initializerBy statedOr statedAs
         init-values e = same (statedOr f stated.Enumerated place value (defaultOf f place)) (initializer f i place) (by-view e) h
 
         pub init-type : v ≡ init.EnumeratedType value → Builds f known store flatten (initializer f i place) at old r new
-        unfolding initializerBy statedOr statedAs
+        unfolding Defaults.initializerBy statedOr statedAs
         init-type e = same (statedOr f stated.Enumerated place value (defaultOf f place)) (initializer f i place) (by-view e) h
 
       pub init-reference : v ≡ init.Reference value → Builds f known store flatten (statedOr f stated.Reference place value (defaultOf f place)) at old r new → Builds f known store flatten (initializer f i place) at old r new
-      unfolding initializerBy statedOr statedAs
+      unfolding Defaults.initializerBy statedOr statedAs
       init-reference e h = same (statedOr f stated.Reference place value (defaultOf f place)) (initializer f i place) (by-view e) h
 
       pub init-late : v ≡ init.LateResolved value → Builds f known store flatten (statedOr f stated.Nothing place value (defaultOf f place)) at old r new → Builds f known store flatten (initializer f i place) at old r new
-      unfolding initializerBy statedOr statedAs
+      unfolding Defaults.initializerBy statedOr statedAs
       init-late e h = same (statedOr f stated.Nothing place value (defaultOf f place)) (initializer f i place) (by-view e) h
 
     module _ {first many : ℕ} where
       module _ (h : Builds f known store flatten (membersOver f place first many (defaultOf f place)) at old r new) where
         pub init-block : v ≡ init.FunctionBlock first many → Builds f known store flatten (initializer f i place) at old r new
-        unfolding initializerBy membersOver
+        unfolding Defaults.initializerBy membersOver
         init-block e = same (membersOver f place first many (defaultOf f place)) (initializer f i place) (by-view e) h
 
         pub init-structure : v ≡ init.Structure first many → Builds f known store flatten (initializer f i place) at old r new
-        unfolding initializerBy membersOver
+        unfolding Defaults.initializerBy membersOver
         init-structure e = same (membersOver f place first many (defaultOf f place)) (initializer f i place) (by-view e) h
 
       pub init-array : v ≡ init.Array first many → Builds f known store flatten (arrayOr f place first many (defaultOf f place)) at old r new → Builds f known store flatten (initializer f i place) at old r new
-      unfolding initializerBy arrayOr
+      unfolding Defaults.initializerBy arrayOr
       init-array e h = same (arrayOr f place first many (defaultOf f place)) (initializer f i place) (by-view e) h
 
   no-view : (w : Initializer) → OneOf noValue (tagOf the-type w) → initializerBy f place w ≡ nothing
-  unfolding initializerBy
+  unfolding Defaults.initializerBy
   no-view init.Nothing h = absurd (miss noValue 0 tt h)
   no-view init.Interface h = refl
   no-view (init.Subrange value) h = absurd (miss noValue 2 tt h)

@@ -15,7 +15,9 @@ use Rattle.definition.specs.Tree.{Tree, flatten, treeWords}
 use Rattle.definition.specs.Ask.{Result, ok, none, Outcome, Ask, done, give, nothing, _>>=_, typeDefault}
 use Rattle.definition.specs.Resolve.{Memo}
 use Rattle.definition.specs.Peek.{Peek, got, peek}
-use Rattle.definition.specs.Defaults.{ifStated, applied, arrayOf, constantAs, enumeratedAs, referenceAs, implicit, defaultOf, nameDefault, specDefault}
+use Rattle.definition.specs.Parts.{ifStated, enumeratedAs, referenceAs, nameDefault}
+use Rattle.definition.specs.Defaults as Defaults
+use Rattle.definition.specs.Starting.{applied, arrayOf, implicit, defaultOf, specDefault}
 use Rattle.laws.specs.Asks.{OnOk}
 use Rattle.laws.specs.Accepted.{Accepted}
 use Rattle.laws.specs.Links.{Link, link-to}
@@ -89,11 +91,11 @@ name-typed name n h =
 
 module _ {f known store : List ℕ} {at : ℕ} {old : List ℕ} {r : Built} {new : List ℕ} (place : Place) (name : ℕ) where
   pub spec-inline : name ≡ inline → Builds f known store flatten (implicit f place) at old r new → Builds f known store flatten (specDefault f place name) at old r new
-  unfolding specDefault
+  unfolding Defaults.specDefault
   spec-inline e h = same (implicit f place) (specDefault f place name) (rw (eq-eqb name inline e)) h
 
   pub spec-named : (name ≡ inline → ⊥) → Builds f known store flatten (nameDefault name) at old r new → Builds f known store flatten (specDefault f place name) at old r new
-  unfolding specDefault
+  unfolding Defaults.specDefault
   spec-named n h = same (nameDefault name) (specDefault f place name) (rw (ne-eqb name inline n)) h
 
 pub spec-linked : {f : List ℕ} {name : ℕ} → SpecIn f name → (name ≡ inline → ⊥) → Link (IsType f) name

@@ -14,7 +14,9 @@ use Rattle.definition.specs.Tree.{Tree, flatten, constantTree, nullTree, refere
 use Rattle.definition.specs.Ask.{Result, ok, none, Outcome, Ask, done, give}
 use Rattle.definition.specs.Peek.{Peek, got, peek}
 use Rattle.definition.specs.Scalar.{asTree, constantValue, enumeratedValue}
-use Rattle.definition.specs.Defaults.{constantAs, enumeratedAs, referenceAs}
+use Rattle.definition.specs.Parts.{enumeratedAs, referenceAs}
+use Rattle.definition.specs.Defaults as Defaults
+use Rattle.definition.specs.Starting.{constantAs}
 use Rattle.laws.specs.Steps.{peek-done, peek-give, peek-nothing}
 use Rattle.places.specs.Inside.{ShapeIn, PlaceIn}
 use Rattle.build.specs.declared.built.Built.{Built}
@@ -29,7 +31,7 @@ module _ {at : ℕ} {old : List ℕ} {r : Built} {new : List ℕ} {o : Outcome} 
   lays-done m e = record { gives = λ M. rw (e, peek-done M o) (x .gives); kept = x .kept }
 
   pub lays-constant : (f : List ℕ) (place : Place) (c : ℕ) {v : Constant} → v ≡ constantAt f c → o ≡ constantValue f (place .shape) v → Lays (constantAs f place c) at old r new
-  unfolding constantAs
+  unfolding Defaults.constantAs
   lays-constant f place c i e = lays-done (constantAs f place c) (ap done (sym (e ∙ ap (constantValue f (place .shape)) i)))
 
   pub lays-enumerated : (f : List ℕ) (place : Place) (e : ℕ) {v q : ℕ} → v ≡ word f entries e 2 → q ≡ word f entries e 3 → o ≡ enumeratedValue f (place .shape) v q

@@ -12,7 +12,8 @@ use Rattle.definition.specs.Layout.{word, count, variables, initializers}
 use Rattle.definition.specs.Tree.{flatten}
 use Rattle.definition.specs.Ask.{Result, ok, none, Outcome, Ask, done, nothing, _>>=_}
 use Rattle.definition.specs.Places.{variablePlace}
-use Rattle.definition.specs.Defaults.{initializer, declaration}
+use Rattle.definition.specs.Defaults as Defaults
+use Rattle.definition.specs.Starting.{initializer, declaration}
 use Rattle.laws.specs.Accepted.{Accepted, variable-points}
 use Rattle.places.specs.Inside.{PlaceIn, variable-found}
 use Rattle.places.specs.Found.{placeIn}
@@ -36,12 +37,12 @@ module _ (f : List ℕ) (v : ℕ) {kind : ℕ} (i : kind ≡ word f variables v 
 -- ---- `declaration`
 module _ (f : List ℕ) (v : ℕ) {b : Bool} (o : b ≡ (eqb (word f variables v 1) 2 || eqb (word f variables v 1) 3)) where
   pub declared-outside : {known store : List ℕ} {at : ℕ} {old : List ℕ} → b ≡ true → Builds f known store flatten (declaration f v) at old None old
-  unfolding declaration
+  unfolding Defaults.declaration
   declared-outside e = no-value (declaration f v) (rw (← o, e))
 
   module _ (e : b ≡ false) {i : ℕ} (q : i ≡ word f variables v 3) (w : Found) (k : placeIn w ≡ variablePlace f v i) where
     inside : declaration f v ≡ done (placeIn w) >>= initializer f i
-    unfolding declaration
+    unfolding Defaults.declaration
     inside = rw (← o, e, ← q, ← k)
 
     pub declared-none : {known store : List ℕ} {at : ℕ} {old : List ℕ} → w ≡ found.None → Builds f known store flatten (declaration f v) at old None old

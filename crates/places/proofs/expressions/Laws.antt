@@ -15,7 +15,7 @@ use Rattle.definition.specs.Records.{constantAt, expressionAt}
 use Rattle.definition.specs.Shapes.{isReference}
 use Rattle.definition.specs.Tree.{constantTree, nullTree, expressionTree}
 use Rattle.definition.specs.Ask.{ok, Outcome}
-use Rattle.definition.specs.Scalar.{asTree, constantValue, enumeratedValue, expressionValue}
+use Rattle.definition.specs.Scalar.{asTree, constantValue, enumeratedValue, expressionValue, expressionBy}
 use Rattle.definition.specs.Syntax.{Expr, exprFrom, exprAt}
 use Rattle.laws.specs.Accepted.{Accepted}
 use Rattle.laws.specs.Decoded.{expr-is}
@@ -49,27 +49,27 @@ module _ (f : List ℕ) (a : Accepted f) (s : Shape) (x : ℕ) (l : x < count f 
   module _ {r : Outcome} where
     module _ {number : ℕ} (q : e ≡ expression.Constant number) {c : Constant} (p : c ≡ constantAt f number) (h : r ≡ constantValue f s c) where
       pub from-constant : r ≡ expressionValue f s (exprAt f x)
-      unfolding expressionValue exprFrom
+      unfolding expressionBy exprFrom
       from-constant = rw (decoded q, ← p) h
 
       pub over-constant : (n : ℕ) → r ≡ expressionValue f s (Expr.conversion n (exprAt f x))
-      unfolding expressionValue exprFrom
+      unfolding expressionBy exprFrom
       over-constant n = rw (decoded q, ← p) h
 
     module _ {entry : ℕ} (q : e ≡ expression.Enumerated entry) (h : r ≡ enumeratedValue f s (word f entries entry 2) (word f entries entry 3)) where
       pub from-enumerated : r ≡ expressionValue f s (exprAt f x)
-      unfolding expressionValue exprFrom
+      unfolding expressionBy exprFrom
       from-enumerated = rw (decoded q) h
 
       pub over-enumerated : (n : ℕ) → r ≡ expressionValue f s (Expr.conversion n (exprAt f x))
-      unfolding expressionValue exprFrom
+      unfolding expressionBy exprFrom
       over-enumerated n = rw (decoded q) h
 
     pub over-other : Composed e → (n : ℕ) → r ≡ ok (expressionTree n) → r ≡ expressionValue f s (Expr.conversion n (exprAt f x))
     over-other o n h = h ∙ kept-over f s (exprAt f) n x e o ∙ ap (λ d. expressionValue f s (Expr.conversion n d)) (sym (decoded refl))
 
     pub from-parentheses : {inner : ℕ} → e ≡ expression.Parentheses inner → r ≡ expressionValue f s (exprAt f inner) → r ≡ expressionValue f s (exprAt f x)
-    unfolding expressionValue exprFrom
+    unfolding expressionBy exprFrom
     from-parentheses q h = rw (decoded q) h
 
     pub from-conversion : {inner : ℕ} → e ≡ expression.Conversion inner → r ≡ expressionValue f s (Expr.conversion x (exprAt f inner)) → r ≡ expressionValue f s (exprAt f x)
@@ -77,7 +77,7 @@ module _ (f : List ℕ) (a : Accepted f) (s : Shape) (x : ℕ) (l : x < count f 
     from-conversion q h = rw (decoded q) h
 
     pub from-null : e ≡ expression.Null → r ≡ ok (pick (isReference s) nullTree (expressionTree x)) → r ≡ expressionValue f s (exprAt f x)
-    unfolding expressionValue exprFrom
+    unfolding expressionBy exprFrom
     from-null q h = rw (decoded q) h
 
     pub from-other : Other e → r ≡ ok (expressionTree x) → r ≡ expressionValue f s (exprAt f x)

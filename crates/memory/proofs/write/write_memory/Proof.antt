@@ -1,5 +1,5 @@
 -- `write::write_memory` meets its contract. Assumes nothing.
-use Rattle.definition.specs.Resolve.{variableOutcome}
+use Rattle.definition.specs.Starting.{variableOutcome}
 use Rattle.definition.specs.Answers.{variableRefused}
 use Rattle.memory_definition.specs.Answers.{writeMemoryAnswer, writeMemoryOut}
 use Rattle.resolver.proofs.Answering.{passed, cleared-same}

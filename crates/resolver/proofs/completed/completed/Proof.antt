@@ -1,6 +1,6 @@
 -- `completed::completed` meets its contract. Assumes nothing.
 use borrow.Author.Needs.{needs}
-use Rattle.definition.specs.Resolve.{variableOutcome}
+use Rattle.definition.specs.Starting.{variableOutcome}
 use Rattle.definition.specs.Answers.{completedAnswer, completedOut, variableRefused}
 use Rattle.resolver.proofs.Answering.{passed, cleared-same}
 use Rattle.resolver.proofs.Completing.{answer-refused, out-refused, answer-passed, out-passed}

@@ -1,5 +1,5 @@
 -- `trees::type_tree` meets its contract. Assumes nothing.
-use Rattle.definition.specs.Resolve.{typeOutcome}
+use Rattle.definition.specs.Starting.{typeOutcome}
 use Rattle.definition.specs.Answers.{typeTreeAnswer, typeTreeOut, typeRefused}
 use Rattle.resolver.proofs.Answering.{passed, cleared-same, answer-refused, out-refused, answer-passed, out-passed}
 use borrow.Author.Needs.{needs}

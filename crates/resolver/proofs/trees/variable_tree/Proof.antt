@@ -1,5 +1,5 @@
 -- `trees::variable_tree` meets its contract. Assumes nothing.
-use Rattle.definition.specs.Resolve.{variableOutcome}
+use Rattle.definition.specs.Starting.{variableOutcome}
 use Rattle.definition.specs.Answers.{variableTreeAnswer, variableTreeOut, variableRefused}
 use Rattle.resolver.proofs.Answering.{passed, cleared-same, answer-refused, out-refused, answer-passed, out-passed}
 use borrow.Author.Needs.{needs}
