@@ -97,7 +97,7 @@ module _ (f : List ℕ) (a : Accepted f) where
     unfolding variableLevels
     variable-under v l =
         let p = variable-points f a v l in
-        found-under (word f variables v 3) (p .1) (variablePlace f v (word f variables v 3)) (variable-in f a v (word f variables v 3) (p .0))
+        found-under (word f variables v 3) (p .1) (variablePlace f v (word f variables v 3)) (variable-in f a v (word f variables v 3) (p .0) (p .1))
 
     element-under : (place : Place) → PlaceIn f place → (e : ℕ) → e < count f elements → more + elementLevels f place e ≤ 2 * levels f
     unfolding elementLevels

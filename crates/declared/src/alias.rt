@@ -4,13 +4,15 @@ ghost use Prim.Native.Nat.{_+_, _*_, _≤_, _<_};
 ghost use lib.ListN.{length};
 ghost use Rattle.definition.specs.Starting.{subrangeDefault};
 ghost use Rattle.definition.specs.Tree.{flatten, treeWords};
+ghost use Rattle.laws.specs.Accepted.{Accepted};
 ghost use Rattle.laws.specs.Links.{Link};
 ghost use Rattle.laws.specs.Used.{IsType};
 ghost use Rattle.records.specs.Starts.{StartsOf};
 ghost use Rattle.places.specs.Inside.{PlaceIn};
 ghost use Rattle.build.specs.Built.{Ready, Builds};
 ghost use Rattle.build.specs.Parts.{implicitLevels};
-ghost use Rattle.initial.specs.Stated.{aliasDefault, simpleDefault, baseDefault, AliasIn, SpecIn, StartIn, Over};
+ghost use Rattle.initial.specs.declared.values.Stated.the-variants as stated;
+ghost use Rattle.initial.specs.Stated.{aliasDefault, simpleDefault, baseDefault, AliasIn, SpecIn, ValueIn, StartIn, Over};
 ghost use Rattle.initial.specs.Rooms.{aliasLevels, simpleLevels};
 use build::built::Built;
 use build::defaults::implicit;
@@ -121,7 +123,7 @@ fn over_base(
     room: &mut [u32],
     at: usize,
 ) -> Built
-    requires { ⌜ StartsOf (now file) (now source) × (at + 6 ≤ length (now room)) ⌝ }
+    requires { ⌜ StartsOf (now file) (now source) × Accepted (now file) × PlaceIn (now file) place × ValueIn (now file) stated.Constant start × (at + 6 ≤ length (now room)) ⌝ }
     ensures { λ r. ⌜ Over (now (file .entry)) place start at base (now (room .entry)) r (now (room .exit)) ⌝ }
 {
     if start == 0 {
@@ -146,7 +148,7 @@ pub fn subrange_default(
     room: &mut [u32],
     at: usize,
 ) -> Built
-    requires { ⌜ Ready (now file) (now source) (now known) (now store) × PlaceIn (now file) place × SpecIn (now file) name × (at + implicitLevels (now file) place * treeWords ≤ length (now room)) ⌝ }
+    requires { ⌜ Ready (now file) (now source) (now known) (now store) × PlaceIn (now file) place × SpecIn (now file) name × ValueIn (now file) stated.Constant start × (at + implicitLevels (now file) place * treeWords ≤ length (now room)) ⌝ }
     ensures { λ r. ⌜ Builds (now (file .entry)) (now (known .entry)) (now (store .entry)) flatten (subrangeDefault (now (file .entry)) place name start) at (now (room .entry)) r (now (room .exit)) ⌝ }
 {
     if name == 0 {

@@ -16,7 +16,7 @@ use Rattle.definition.specs.declared.records.Shape.{Shape}
 use Rattle.definition.specs.declared.records.Constant.{Constant}
 use Rattle.definition.specs.declared.records.Entry.{Entry}
 use Rattle.definition.specs.declared.records.Entry.the-variants as entry
-use Rattle.definition.specs.Layout.{count, entries, expressions}
+use Rattle.definition.specs.Layout.{count, entries, expressions, constants}
 use Rattle.definition.specs.Records.{entryAt, constantAt}
 use Rattle.definition.specs.Syntax.{exprAt}
 use Rattle.definition.specs.Tree.{many, nodes, nodesIn, flatten, leaf, constantTree, one}
@@ -59,9 +59,9 @@ others = 2 ∷ 3 ∷ 5 ∷ 6 ∷ 7 ∷ []
 
 module _ (f : List ℕ) (s : Shape) (e : ℕ) {x : Entry} (is : x ≡ entryAt f e) where
   module _ {r : Outcome} where
-    pub simple-constant : {number : ℕ} → x ≡ entry.Constant number → {c : Constant} → c ≡ constantAt f number → r ≡ constantValue f s c → r ≡ simpleOf f s (entryAt f e)
+    pub simple-constant : {number : ℕ} → x ≡ entry.Constant number → r ≡ constantValue f s (constantAt f number) → r ≡ simpleOf f s (entryAt f e)
     unfolding simpleOf
-    simple-constant q p h = rw (← is, q, ← p) h
+    simple-constant q h = rw (← is, q) h
 
     pub simple-enumerated : {value qualifier : ℕ} → x ≡ entry.Enumerated value qualifier → r ≡ enumeratedValue f s value qualifier → r ≡ simpleOf f s (entryAt f e)
     unfolding simpleOf
@@ -85,6 +85,9 @@ module _ (f : List ℕ) (s : Shape) (e : ℕ) {x : Entry} (is : x ≡ entryAt f 
   pub simple-other : OneOf others (tagOf the-type x) → asTree none ≡ simpleOf f s (entryAt f e)
   unfolding asTree
   simple-other h = rw (← is) (by-others x h)
+
+  pub constant-inside : Accepted f → e < count f entries → {number : ℕ} → x ≡ entry.Constant number → number < count f constants
+  constant-inside a l q = rw (sym is ∙ q) at (entry-pointed f a e l)
 
   pub simple-inside : Accepted f → e < count f entries → {number : ℕ} → x ≡ entry.Expression number → number < count f expressions
   simple-inside a l q = rw (sym is ∙ q) at (entry-pointed f a e l)
@@ -213,7 +216,7 @@ pub ruleset laws = (
   simple-enumerated,
   simple-expression,
   simple-other,
-  simple-inside,
+  constant-inside, simple-inside,
   put-ends,
   put-full,
   put-none,

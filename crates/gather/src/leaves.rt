@@ -22,7 +22,6 @@ use definition::records::Shape;
 use places::expressions::expression;
 use places::values::constant_value;
 use places::values::enumerated_value;
-use records::view::constant_at;
 use records::view::entry_at;
 use scalar::node::Leaf;
 use tree::extent::Extent;
@@ -37,10 +36,7 @@ pub fn simple(file: &[u32], source: &[usize], shape: Shape, e: u32) -> Leaf
 {
     let entry = entry_at(file, source, e);
     match entry {
-        Entry::Constant { number } => {
-            let c = constant_at(file, source, number);
-            constant_value(file, source, shape, c)
-        }
+        Entry::Constant { number } => constant_value(file, source, shape, number),
         Entry::Enumerated { value, qualifier } => {
             enumerated_value(file, source, shape, value, qualifier)
         }

@@ -7,7 +7,7 @@ use lib.Dec.{eqb}
 use lib.ListN.{length, take}
 use Rattle.definition.specs.declared.records.Place.{Place}
 use Rattle.definition.specs.Base.{pick, choose, onLink, inline}
-use Rattle.definition.specs.Layout.{word, count, types, elements, variables, initializers, entries}
+use Rattle.definition.specs.Layout.{word, count, types, elements, variables, initializers, entries, constants}
 use Rattle.definition.specs.Records.{initializerAt, namedType, declarationAt}
 use Rattle.definition.specs.Syntax.{initsAt}
 use Rattle.definition.specs.Tree.{Tree, Trees, tnil, flatten, flattenAll, treeWords}
@@ -52,6 +52,19 @@ unfoldable pub membersOver : List ℕ → Place → ℕ → ℕ → Ask Outcome 
 membersOver f place first many base = base >>= applied f place (initsAt f first many)
 
 -- ---- what the file has
+-- a constant that is stated is one of the file: behind a link, and as a number
+abbrev pub ifConstant : Stated → Type 0 → Type 0
+ifConstant stated.Constant P = P
+ifConstant stated.Enumerated P = Unit {0}
+ifConstant stated.Reference P = Unit {0}
+ifConstant stated.Nothing P = Unit {0}
+
+pub record ValueIn (f : List ℕ) (what : Stated) (value : ℕ) : Type 0 where
+  pub constant : ifConstant what (Link (λ c. c < count f constants) value)
+
+pub record StatedIn (f : List ℕ) (what : Stated) (n : ℕ) : Type 0 where
+  pub constant : ifConstant what (n < count f constants)
+
 pub record ArrayIn (f : List ℕ) (first many : ℕ) : Type 0 where
   pub inside : first + many ≤ count f entries
   pub entries : Run (InArray f) first many

@@ -12,7 +12,7 @@ ghost use Rattle.places.specs.Inside.{PlaceIn};
 ghost use Rattle.build.specs.Built.{indexAt, Ready, Builds};
 ghost use Rattle.build.specs.Parts.{implicitLevels, startLevels};
 ghost use Rattle.initial.specs.declared.values.Stated.the-variants as stated;
-ghost use Rattle.initial.specs.Stated.{statedOr, arrayOr, membersOver, ArrayIn, MembersIn, SpecIn};
+ghost use Rattle.initial.specs.Stated.{statedOr, arrayOr, membersOver, ValueIn, ArrayIn, MembersIn, SpecIn};
 ghost use Rattle.initial.specs.Rooms.{entryLevels};
 use crate::given::apply_members;
 use crate::given::array_of;
@@ -37,7 +37,7 @@ pub fn stated_or_default(
     room: &mut [u32],
     at: usize,
 ) -> Built
-    requires { ⌜ Ready (now file) (now source) (now known) (now store) × PlaceIn (now file) place × (at + startLevels (now file) place * treeWords ≤ length (now room)) ⌝ }
+    requires { ⌜ Ready (now file) (now source) (now known) (now store) × PlaceIn (now file) place × ValueIn (now file) what value × (at + startLevels (now file) place * treeWords ≤ length (now room)) ⌝ }
     ensures { λ r. ⌜ Builds (now (file .entry)) (now (known .entry)) (now (store .entry)) flatten (statedOr (now (file .entry)) what place value (defaultOf (now (file .entry)) place)) at (now (room .entry)) r (now (room .exit)) ⌝ }
 {
     if value == 0 {
@@ -57,7 +57,7 @@ pub fn constant_or_implicit(
     room: &mut [u32],
     at: usize,
 ) -> Built
-    requires { ⌜ Ready (now file) (now source) (now known) (now store) × PlaceIn (now file) place × (at + implicitLevels (now file) place * treeWords ≤ length (now room)) ⌝ }
+    requires { ⌜ Ready (now file) (now source) (now known) (now store) × PlaceIn (now file) place × ValueIn (now file) stated.Constant value × (at + implicitLevels (now file) place * treeWords ≤ length (now room)) ⌝ }
     ensures { λ r. ⌜ Builds (now (file .entry)) (now (known .entry)) (now (store .entry)) flatten (statedOr (now (file .entry)) stated.Constant place value (Defaults.implicit (now (file .entry)) place)) at (now (room .entry)) r (now (room .exit)) ⌝ }
 {
     if value == 0 {
@@ -170,7 +170,7 @@ pub fn constant_or_named(
     room: &mut [u32],
     at: usize,
 ) -> Built
-    requires { ⌜ Ready (now file) (now source) (now known) (now store) × PlaceIn (now file) place × Link (IsType (now file)) name × (at + treeWords ≤ length (now room)) ⌝ }
+    requires { ⌜ Ready (now file) (now source) (now known) (now store) × PlaceIn (now file) place × ValueIn (now file) stated.Constant value × Link (IsType (now file)) name × (at + treeWords ≤ length (now room)) ⌝ }
     ensures { λ r. ⌜ Builds (now (file .entry)) (now (known .entry)) (now (store .entry)) flatten (statedOr (now (file .entry)) stated.Constant place value (nameDefault name)) at (now (room .entry)) r (now (room .exit)) ⌝ }
 {
     if value == 0 {

@@ -1,12 +1,12 @@
 // Values of one node that an initializer states.
 ghost use mathlib.Core.Path.{_≡_};
-ghost use Prim.Native.Nat.{_+_, _≤_};
+ghost use Prim.Native.Nat.{_+_, _≤_, _<_};
 ghost use lib.Dec.{eqb};
 ghost use lib.ListN.{length};
 ghost use Rattle.definition.specs.Ask.{ok, give};
 ghost use Rattle.definition.specs.Base.{pick};
 ghost use Rattle.definition.specs.Layout as Layout;
-ghost use Rattle.definition.specs.Layout.{expressions};
+ghost use Rattle.definition.specs.Layout.{expressions, constants};
 ghost use Rattle.definition.specs.Tree.{nullTree, referenceTree};
 ghost use Rattle.definition.specs.Scalar.{asTree};
 ghost use Rattle.definition.specs.Parts.{enumeratedAs, referenceAs};
@@ -15,7 +15,7 @@ ghost use Rattle.laws.specs.Accepted.{Accepted};
 ghost use Rattle.records.specs.Starts.{StartsOf};
 ghost use Rattle.scalar.specs.Node.{resultOf};
 ghost use Rattle.places.specs.Inside.{PlaceIn};
-ghost use Rattle.initial.specs.Stated.{statedAs, Lays};
+ghost use Rattle.initial.specs.Stated.{statedAs, StatedIn, Lays};
 use build::built::Built;
 use build::leaves::put_leaf;
 use definition::layout::ENTRIES;
@@ -23,7 +23,6 @@ use definition::layout::EXPRESSIONS;
 use definition::records::Place;
 use places::values::constant_value;
 use places::values::enumerated_value;
-use records::view::constant_at;
 use records::words::word;
 use scalar::node;
 use scalar::node::Leaf;
@@ -45,12 +44,11 @@ pub fn constant_start(
     room: &mut [u32],
     at: usize,
 ) -> Built
-    requires { ⌜ StartsOf (now file) (now source) × (at + 6 ≤ length (now room)) ⌝ }
+    requires { ⌜ StartsOf (now file) (now source) × Accepted (now file) × PlaceIn (now file) place × (c < Layout.count (now file) constants) × (at + 6 ≤ length (now room)) ⌝ }
     ensures { λ r. ⌜ Lays (constantAs (now (file .entry)) place c) at (now (room .entry)) r (now (room .exit)) ⌝ }
 {
     let shape = place.shape;
-    let constant = constant_at(file, source, c);
-    let leaf = constant_value(file, source, shape, constant);
+    let leaf = constant_value(file, source, shape, c);
     put_leaf(leaf, room, at)
 }
 
@@ -102,7 +100,7 @@ pub fn stated_start(
     room: &mut [u32],
     at: usize,
 ) -> Built
-    requires { ⌜ StartsOf (now file) (now source) × Accepted (now file) × PlaceIn (now file) place × (at + 6 ≤ length (now room)) ⌝ }
+    requires { ⌜ StartsOf (now file) (now source) × Accepted (now file) × PlaceIn (now file) place × StatedIn (now file) what n × (at + 6 ≤ length (now room)) ⌝ }
     ensures { λ r. ⌜ Lays (statedAs (now (file .entry)) what place n) at (now (room .entry)) r (now (room .exit)) ⌝ }
 {
     match what {

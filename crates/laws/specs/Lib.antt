@@ -32,6 +32,7 @@ pub mod Meaning
 -- ---- accepted files
 pub mod Accepted
 pub mod Pointed
+pub mod Strings
 pub mod Used
 pub mod Falling
 pub mod Completes

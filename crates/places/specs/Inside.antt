@@ -5,18 +5,21 @@ use mathlib.Core.List.{List}
 use Prim.Native.Nat.{ℕ, zero, suc, _+_, _≤_, _<_}
 use native.Mathlib.Omega.{arith}
 use lib.Dec.{eqb}
+use borrow.Author.Tests.{eqb-true}
 use Rattle.definition.specs.declared.records.Shape.{Shape}
 use Rattle.definition.specs.declared.records.Shape.the-variants as shape
 use Rattle.definition.specs.declared.records.Place.{Place}
 use Rattle.definition.specs.Base.{onLink, inline}
-use Rattle.definition.specs.Layout.{word, count, shapes, shapeFields, variables, initializers}
-use Rattle.definition.specs.Records.{shapeAt, typeShape, initializerKind}
+use Rattle.definition.specs.Layout.{word, count, shapes, shapeFields, variables, initializers, constants}
+use Rattle.definition.specs.Records.{shapeAt, typeShape, initializerKind, constantAt}
 use Rattle.definition.specs.Ask.{none}
 use Rattle.definition.specs.Places.{bare, placeOf, typedPlace, elementPlace, innermost, leafPlace, firstNamed, blockFieldType, fieldDeclaration, structureFieldPlace, fieldPlace, stringPlace, variablePlace}
 use Rattle.laws.specs.Asks.{OnOk}
 use Rattle.laws.specs.Cases.{on-pick, on-link}
 use Rattle.laws.specs.Links.{Link, link-to}
 use Rattle.laws.specs.Accepted.{Accepted, number-in, type-points}
+use Rattle.laws.specs.Strings.{widthIn, shape-width, initializer-width, literal-length}
+use Rattle.scalar.specs.Convert.{Counts}
 use Rattle.laws.specs.Pointed.{Run, ShapePointed, shape-pointed, named-of}
 use Rattle.laws.specs.Nearby.{Below, placed-bare, below-of, below-typed, below-element, below-structure, block-field}
 use Rattle.laws.specs.Used.{IsType, leads-inside}
@@ -25,9 +28,10 @@ use Rattle.places.specs.declared.field.Found.the-variants as found
 use Rattle.places.specs.Found.{placeIn}
 use Rattle.places.specs.Shapes.{on-kind}
 
--- a shape whose numbers and runs lie inside their sections
+-- a shape whose numbers and runs lie inside their sections; a string's width is 0 or 1
 pub record ShapeIn (f : List ℕ) (s : Shape) : Type 0 where
   pub points : ShapePointed f (count f shapes) s
+  pub width : widthIn s ≤ 1
 
 pub record PlaceIn (f : List ℕ) (place : Place) : Type 0 where
   pub types : Below (IsType f) place
@@ -72,7 +76,7 @@ structure-fields i e = let p = rw e at (i .shape .points) in record { inside = p
 
 module _ (f : List ℕ) (a : Accepted f) where
   pub shape-in : (s : ℕ) → s < count f shapes → ShapeIn f (shapeAt f s)
-  shape-in s h = record { points = pointed-up f s (count f shapes) (omega arith) (shapeAt f s) (shape-pointed f a s h) }
+  shape-in s h = record { points = pointed-up f s (count f shapes) (omega arith) (shapeAt f s) (shape-pointed f a s h); width = shape-width f a s h }
 
   pub type-shape : (t : ℕ) → IsType f t → typeShape f t < count f shapes
   unfolding typeShape
@@ -133,14 +137,20 @@ module _ (f : List ℕ) (a : Accepted f) where
   pub field-found : (place : Place) (name : ℕ) → PlaceIn f place → {r : Found} → placeIn r ≡ fieldPlace f place name → {p : Place} → r ≡ found.Place p → PlaceIn f p
   field-found place name i {r} h {p} e = let o : OnOk (PlaceIn f) (placeIn r) = rw h (field-in place name i) in rw e at o
 
-  pub variable-in : (v i : ℕ) → Link (IsType f) (word f variables v 2) → OnOk (PlaceIn f) (variablePlace f v i)
+  pub variable-in : (v i : ℕ) → Link (IsType f) (word f variables v 2) → i < count f initializers → OnOk (PlaceIn f) (variablePlace f v i)
   unfolding variablePlace stringPlace bare
-  variable-in v i h =
+  variable-in v i h l =
       on-pick (OnOk (PlaceIn f)) (eqb (initializerKind f i) 4) (stringPlace f i) _
       (λ e. on-pick (OnOk (PlaceIn f)) (eqb (word f initializers i 6) inline) none _ (λ q. tt)
-      (λ q. record { types = placed-bare (IsType f) (IsType f) _; shape = record { points = tt } }))
+      (λ q. record { types = placed-bare (IsType f) (IsType f) _; shape = record { points = tt; width = initializer-width f a i l (eqb-true (initializerKind f i) 4 e) } }))
       (λ e. on-link (OnOk (PlaceIn f)) (word f variables v 2) none _ tt (λ t q. of-in t (link-to (IsType f) _ t q h)))
 
   -- the place that `variable_place` finds
-  pub variable-found : (v i : ℕ) → Link (IsType f) (word f variables v 2) → {r : Found} → placeIn r ≡ variablePlace f v i → {p : Place} → r ≡ found.Place p → PlaceIn f p
-  variable-found v i l {r} h {p} e = let o : OnOk (PlaceIn f) (placeIn r) = rw h (variable-in v i l) in rw e at o
+  pub variable-found : (v i : ℕ) → Link (IsType f) (word f variables v 2) → i < count f initializers
+      → {r : Found} → placeIn r ≡ variablePlace f v i → {p : Place} → r ≡ found.Place p → PlaceIn f p
+  variable-found v i l b {r} h {p} e = let o : OnOk (PlaceIn f) (placeIn r) = rw h (variable-in v i l b) in rw e at o
+
+  -- the characters that a place of the file cuts of a literal of the file are counted in a word
+  pub counts-in : (s : Shape) (n : ℕ) → ShapeIn f s → n < count f constants → Counts s (constantAt f n)
+  counts-in s n i h =
+      record { of-string = λ length width e k. let w : width ≤ 1 = rw e at (i .width) in record { fits = omega (arith, w, literal-length f a n h k) } }

@@ -19,7 +19,6 @@ use crate::values::enumerated_value;
 use definition::layout::ENTRIES;
 use definition::records::Expression;
 use definition::records::Shape;
-use records::view::constant_at;
 use records::view::expression_at;
 use records::words::word;
 use scalar::node;
@@ -59,10 +58,7 @@ fn conversion(file: &[u32], source: &[usize], shape: Shape, x: u32, inner: u32) 
 {
     let e = expression_at(file, source, inner);
     match e {
-        Expression::Constant { number } => {
-            let c = constant_at(file, source, number);
-            constant_value(file, source, shape, c)
-        }
+        Expression::Constant { number } => constant_value(file, source, shape, number),
         Expression::Enumerated { entry } => enumerated_entry(file, source, shape, entry),
         _ => later(x),
     }
@@ -75,10 +71,7 @@ pub fn expression(file: &[u32], source: &[usize], shape: Shape, x: u32) -> Leaf
 {
     let e = expression_at(file, source, x);
     match e {
-        Expression::Constant { number } => {
-            let c = constant_at(file, source, number);
-            constant_value(file, source, shape, c)
-        }
+        Expression::Constant { number } => constant_value(file, source, shape, number),
         Expression::Enumerated { entry } => enumerated_entry(file, source, shape, entry),
         Expression::Parentheses { inner } => expression(file, source, shape, inner),
         Expression::Conversion { inner } => conversion(file, source, shape, x, inner),

@@ -1,16 +1,17 @@
 // What a constant or an enumerated value gives a place, and what a shape without parts starts with when nothing declares one (`constant`,
 // `from_enumerated_value`, `implicit_default`).
 ghost use mathlib.Core.Path.{_≡_};
-ghost use Prim.Native.Nat.{_+_, _-_, _^_, _≤_};
+ghost use Prim.Native.Nat.{_+_, _-_, _^_, _≤_, _<_};
 ghost use lib.ListN.{length, take, drop};
 ghost use Rattle.definition.specs.Layout as Layout;
-ghost use Rattle.definition.specs.Layout.{countAt, members};
+ghost use Rattle.definition.specs.Layout.{count, countAt, members, constants};
+ghost use Rattle.definition.specs.Records.{constantAt};
 ghost use Rattle.definition.specs.Scalar as scalar;
 ghost use Rattle.definition.specs.Scalar.{asTree, constantValue, builtIn, enumeratedValue};
 ghost use Rattle.laws.specs.Accepted.{Accepted};
 ghost use Rattle.records.specs.Starts.{StartsOf};
 ghost use Rattle.scalar.specs.Node.{resultOf};
-ghost use Rattle.scalar.specs.Convert.{Bounds};
+ghost use Rattle.scalar.specs.Convert.{Bounds, Counts};
 ghost use Rattle.scalar.specs.Members as Members;
 ghost use Rattle.places.specs.Inside.{ShapeIn};
 ghost use Rattle.places.specs.Values.{DefaultName};
@@ -56,7 +57,7 @@ fn range_of(file: &[u32], source: &[usize], shape: Shape, any: Constant) -> Rang
 
 // A constant as a literal of the kind that the place stores.
 pub fn converted(file: &[u32], source: &[usize], shape: Shape, c: Constant) -> Leaf
-    requires { ⌜ StartsOf (now file) (now source) ⌝ }
+    requires { ⌜ StartsOf (now file) (now source) × Counts shape c ⌝ }
     ensures { λ r. ⌜ resultOf r ≡ scalar.converted (now (file .entry)) shape c ⌝ }
 {
     let setting = word(file, source, SETTINGS, 0, 0);
@@ -64,10 +65,12 @@ pub fn converted(file: &[u32], source: &[usize], shape: Shape, c: Constant) -> L
     convert(shape, c, range.least, range.greatest, setting)
 }
 
-pub fn constant_value(file: &[u32], source: &[usize], shape: Shape, c: Constant) -> Leaf
-    requires { ⌜ StartsOf (now file) (now source) ⌝ }
-    ensures { λ r. ⌜ asTree (resultOf r) ≡ constantValue (now (file .entry)) shape c ⌝ }
+// What a constant of the file gives a place.
+pub fn constant_value(file: &[u32], source: &[usize], shape: Shape, number: u32) -> Leaf
+    requires { ⌜ StartsOf (now file) (now source) × Accepted (now file) × ShapeIn (now file) shape × (number < count (now file) constants) ⌝ }
+    ensures { λ r. ⌜ asTree (resultOf r) ≡ constantValue (now (file .entry)) shape (constantAt (now (file .entry)) number) ⌝ }
 {
+    let c = constant_at(file, source, number);
     converted(file, source, shape, c)
 }
 

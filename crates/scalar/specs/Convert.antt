@@ -13,7 +13,7 @@ use Rattle.definition.specs.Records.{constantAt}
 use Rattle.definition.specs.Ask.{Result, none}
 use Rattle.definition.specs.Iec.{between, inRange}
 use Rattle.definition.specs.Scalar.{valueOf, asBool, asInteger, asReal, asCount, asString, converted, asTree, constantValue}
-use Rattle.scalar.specs.String.{cutBy, cut-string-is}
+use Rattle.scalar.specs.String.{cutBy, Countable, cut-string-is}
 
 unfoldable pub asStringBy : ℕ → ℕ → ℕ → Constant → Result Constant
 asStringBy setting length width c = pick (eqb (c .kind) 8) (cutBy setting length width (c .low) (c .high)) none
@@ -37,6 +37,10 @@ convertedBy (shape.FunctionBlock name) c least greatest setting = none
 convertedBy (shape.Interface name) c least greatest setting = none
 convertedBy (shape.Reference target) c least greatest setting = none
 convertedBy shape.Unknown c least greatest setting = none
+
+-- the characters that a place of the shape cuts of a constant can be counted in its last word
+pub record Counts (s : Shape) (c : Constant) : Type 0 where
+  pub of-string : (length width : ℕ) → s ≡ shape.String length width → c .kind ≡ 8 → Countable width (c .high)
 
 -- ---- with the file's constants and setting it is the definition's conversion
 -- only a subrange has bounds; any constants do for another shape

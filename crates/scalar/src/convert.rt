@@ -2,9 +2,10 @@
 ghost use mathlib.Core.Path.{_≡_};
 ghost use mathlib.Core.Bool.{_&&_, _||_};
 ghost use lib.Dec.{eqb, leb};
+ghost use Rattle.definition.specs.declared.records.Shape.the-variants as shape;
 ghost use Rattle.definition.specs.Scalar as scalar;
 ghost use Rattle.scalar.specs.Node.{resultOf};
-ghost use Rattle.scalar.specs.Convert.{asStringBy, convertedBy};
+ghost use Rattle.scalar.specs.Convert.{asStringBy, convertedBy, Counts};
 use crate::node::Leaf;
 use crate::range::holds;
 use crate::range::negative;
@@ -98,6 +99,7 @@ fn as_count(kind: u32, test: bool, c: Constant) -> Leaf
 }
 
 fn as_string(length: u32, width: u32, c: Constant, setting: u32) -> Leaf
+    requires { ⌜ Counts (shape.String length width) c ⌝ }
     ensures { λ r. ⌜ resultOf r ≡ asStringBy setting length width c ⌝ }
 {
     if c.kind == 8 {
@@ -109,6 +111,7 @@ fn as_string(length: u32, width: u32, c: Constant, setting: u32) -> Leaf
 // The two bounds are a subrange's constants, and the setting is the default string length: other shapes look at none of them.
 // A duration can be negative, the calendar kinds count up from their epoch.
 pub fn convert(shape: Shape, c: Constant, least: Constant, greatest: Constant, setting: u32) -> Leaf
+    requires { ⌜ Counts shape c ⌝ }
     ensures { λ r. ⌜ resultOf r ≡ convertedBy shape c least greatest setting ⌝ }
 {
     match shape {

@@ -3,7 +3,7 @@ ghost use mathlib.Core.Path.{_≡_};
 ghost use Prim.Native.Nat.{min};
 ghost use lib.ListN.{take, drop};
 ghost use Rattle.scalar.specs.Node.{resultOf};
-ghost use Rattle.scalar.specs.String.{lengthOf, maxLengthBy, cutBy, stringOf};
+ghost use Rattle.scalar.specs.String.{lengthOf, maxLengthBy, cutBy, stringOf, Countable};
 use crate::node::Leaf;
 use definition::records::Constant;
 
@@ -35,9 +35,9 @@ fn fewer(a: u32, b: u32) -> u32
     b
 }
 
-// A run as a constant: without characters it begins at 0.
-pub fn string_constant(first: u32, count: u32, width: u32) -> Constant
-    ensures { λ r. ⌜ r ≡ stringOf first count width ⌝ }
+// A run as a constant with its last word: without characters it begins at 0.
+pub fn string_constant(first: u32, count: u32, last: u32) -> Constant
+    ensures { λ r. ⌜ r ≡ stringOf first count last ⌝ }
 {
     let mut low = first;
     if count == 0 {
@@ -48,18 +48,20 @@ pub fn string_constant(first: u32, count: u32, width: u32) -> Constant
         sign: 0,
         low,
         high: count,
-        width,
+        width: last,
     }
 }
 
-// A literal's run in a place of some length and width.
+// A literal's run in a place of some length and width. The last word has the width and, doubled, the characters that are cut.
 pub fn cut_string(length: u32, width: u32, first: u32, count: u32, setting: u32) -> Leaf
+    requires { ⌜ Countable width count ⌝ }
     ensures { λ r. ⌜ resultOf r ≡ cutBy setting length width first count ⌝ }
 {
     let MaxLength::Most(most) = max_length(length, setting) else {
         return Leaf::None;
     };
-    Leaf::Value(string_constant(first, fewer(count, most), width))
+    let held = fewer(count, most);
+    Leaf::Value(string_constant(first, held, width + 2 * (count - held)))
 }
 
 // The characters themselves, as a part of the section. Of a run that leaves the section this is what lies in it.

@@ -3,12 +3,11 @@ ghost use mathlib.Core.Path.{_≡_};
 ghost use lib.ListN.{length};
 ghost use Rattle.definition.specs.Tree.{flatten, constantTree};
 ghost use Rattle.definition.specs.Ask.{ok};
-ghost use Rattle.definition.specs.Scalar as scalar;
-ghost use Rattle.definition.specs.Records.{shapeAt, constantAt};
+ghost use Rattle.definition.specs.Scalar.{asTree};
 ghost use Rattle.definition.specs.Answers.{over, treeSays, treeAnswer, valueCode};
 ghost use Rattle.scalar.specs.Node.{resultOf};
 ghost use Rattle.start_values.specs.Convert as Convert;
-ghost use Rattle.start_values.specs.Convert.{convertRefused, convertAnswer, convertOut};
+ghost use Rattle.start_values.specs.Convert.{Both, valueAt, convertRefused, convertAnswer, convertOut};
 use crate::code::tree_code;
 use crate::wirkesu_accept;
 use definition::answers::TreeAnswer;
@@ -16,8 +15,7 @@ use definition::layout::CONSTANTS;
 use definition::layout::NODE_WORDS;
 use definition::layout::SHAPES;
 use definition::records::Constant;
-use places::values::converted;
-use records::view::constant_at;
+use places::values::constant_value;
 use records::view::shape_at;
 use records::words::count;
 use records::words::find_sections;
@@ -25,12 +23,12 @@ use scalar::node::Leaf;
 use scalar::node::node;
 
 fn value_at(file: &[u32], shape: u32, constant: u32) -> Leaf
-    ensures { λ r. ⌜ resultOf r ≡ scalar.converted (now (file .entry)) (shapeAt (now (file .entry)) shape) (constantAt (now (file .entry)) constant) ⌝ }
+    requires { ⌜ Both (now file) shape constant ⌝ }
+    ensures { λ r. ⌜ asTree (resultOf r) ≡ valueAt (now (file .entry)) shape constant ⌝ }
 {
     let source = find_sections(file);
     let s = shape_at(file, &source, shape);
-    let c = constant_at(file, &source, constant);
-    converted(file, &source, s, c)
+    constant_value(file, &source, s, constant)
 }
 
 fn there(file: &[u32], shape: u32, constant: u32) -> bool

@@ -14,7 +14,7 @@ use Rattle.definition.specs.declared.records.Initializer.{Initializer}
 use Rattle.definition.specs.declared.records.Initializer.the-variants as init
 use Rattle.definition.specs.declared.records.Place.{Place}
 use Rattle.definition.specs.Base.{choose, onLink}
-use Rattle.definition.specs.Layout.{word, count, initializers}
+use Rattle.definition.specs.Layout.{word, count, initializers, constants}
 use Rattle.definition.specs.Records.{initializerAt, namedType}
 use Rattle.definition.specs.Tree.{Tree, flatten, treeWords}
 use Rattle.definition.specs.Ask.{Result, ok, none, large, Outcome, Ask, done, bind, give, nothing, typeDefault, _>>=_}
@@ -37,11 +37,11 @@ use Rattle.build.specs.Built.{answerOf, Gives, Builds, Memory}
 use Rattle.build.specs.Parts.{implicitLevels}
 use Rattle.build.proofs.Levels.{levels-some}
 use Rattle.initial.specs.declared.values.Stated.the-variants as stated
-use Rattle.initial.specs.Stated.{Lays, statedAs, statedOr, arrayOr, membersOver, ArrayIn, MembersIn, AliasIn, SpecIn, StartIn, Over, aliasDefault, simpleDefault, baseDefault}
+use Rattle.initial.specs.Stated.{Lays, statedAs, statedOr, arrayOr, membersOver, ArrayIn, MembersIn, AliasIn, SpecIn, ValueIn, StartIn, Over, aliasDefault, simpleDefault, baseDefault}
 use Rattle.initial.specs.Rooms.{entryLevels, aliasLevelsBy, aliasLevels, simpleLevels}
 use Rattle.initial.proofs.Alike.{same, no-value}
-use Rattle.initial.proofs.stated.Laws.{implicit-some, implicit-tree, stated}
-use Rattle.initial.proofs.start.Laws.{max-left, max-right, array-in, structure-in, block-in}
+use Rattle.initial.proofs.stated.Laws.{stated-in, implicit-some, implicit-tree, stated}
+use Rattle.initial.proofs.start.Laws.{max-left, max-right, simple-value, string-value, array-in, structure-in, block-in}
 
 -- ---- room
 module _ (f : List ℕ) (place : Place) (at n : ℕ) where
@@ -84,6 +84,10 @@ module _ (f : List ℕ) (place : Place) (at n : ℕ) where
       pub block-room : v ≡ init.FunctionBlock first many → at + entryLevels f first many place * 12288 ≤ n
       unfolding aliasLevels aliasLevelsBy
       block-room e = max-right at (implicitLevels f place) (entryLevels f first many place) n (rw (← q, e) at h)
+
+-- ---- a subrange's start value
+pub start-inside : {f : List ℕ} (start : ℕ) → ValueIn f stated.Constant start → (start ≡ 0 → ⊥) → start - 1 < count f constants
+start-inside start i n = stated-in stated.Constant start i n .constant
 
 -- ---- names
 module _ {f : List ℕ} {i : ℕ} (l : AliasIn f i) where
@@ -272,4 +276,4 @@ module _ (f : List ℕ) (place : Place) (start : ℕ) where
     simple-in s = s .alias n
 
 pub ruleset laws =
-    (needs, linked-type, implicit-some, implicit-tree, implicit-room, tree-room, array-room, structure-room, block-room, array-in, structure-in, block-in, alias-inside, alias-spec, simple-linked, structure-linked, block-linked, alias-string, alias-subrange, alias-simple, alias-block, alias-structure, alias-array, alias-none, alias-implicit, over-none, over-large, over-wanted, over-own, subrange-none, subrange-over, base-implicit, base-typed, simple-none, simple-alias, simple-room, simple-in)
+    (needs, linked-type, start-inside, simple-value, string-value, implicit-some, implicit-tree, implicit-room, tree-room, array-room, structure-room, block-room, array-in, structure-in, block-in, alias-inside, alias-spec, simple-linked, structure-linked, block-linked, alias-string, alias-subrange, alias-simple, alias-block, alias-structure, alias-array, alias-none, alias-implicit, over-none, over-large, over-wanted, over-own, subrange-none, subrange-over, base-implicit, base-typed, simple-none, simple-alias, simple-room, simple-in)

@@ -37,10 +37,10 @@ use Rattle.build.specs.Built.{Builds}
 use Rattle.build.specs.Parts.{implicitLevels}
 use Rattle.build.proofs.Levels.{levels-some}
 use Rattle.initial.specs.declared.values.Stated.the-variants as stated
-use Rattle.initial.specs.Stated.{Lays, statedAs, statedOr, arrayOr, ArrayIn, AliasIn, SpecIn, StartIn, elementStart, variableStart, partStart, isPart, partAsk, partsFrom, PartIn, PartsIn, simpleDefault, aliasDefault, baseDefault}
+use Rattle.initial.specs.Stated.{Lays, statedAs, statedOr, arrayOr, ArrayIn, AliasIn, SpecIn, ValueIn, StartIn, elementStart, variableStart, partStart, isPart, partAsk, partsFrom, PartIn, PartsIn, simpleDefault, aliasDefault, baseDefault}
 use Rattle.initial.specs.Rooms.{entryLevels, partsLevels, simpleLevels, bodyLevelsBy, bodyLevels}
 use Rattle.initial.proofs.Alike.{same, laid, no-value}
-use Rattle.initial.proofs.start.Laws.{max-left, max-right}
+use Rattle.initial.proofs.start.Laws.{constants-in, max-left, max-right}
 
 -- ---- parts of a structure and of a function block
 part-of-element : (f : List ℕ) (place : Place) (e size : ℕ) → partAsk f place elements e size ≡ elementStart f place e >>= field size (word f elements e 0)
@@ -170,6 +170,12 @@ module _ {f : List ℕ} (a : Accepted f) {t : ℕ} (l : IsType f t) where
     unfolding declarationUses
     subrange-spec {name} e = spec-of name (uses-of e)
 
+    pub subrange-value : {name start : ℕ} → d ≡ decl.Subrange name start → ValueIn f stated.Constant start
+    subrange-value {start = start} e = constants-in f 1 start (points e)
+
+    pub string-value : {start : ℕ} → d ≡ decl.String start → ValueIn f stated.Constant start
+    string-value {start} e = constants-in f 8 start (points e)
+
     module _ {name first many : ℕ} (e : d ≡ decl.Array name first many) where
       pub array-spec : SpecIn f name
       unfolding declarationUses
@@ -294,4 +300,4 @@ module _ (f : List ℕ) (t : ℕ) {place : Place} (p : place ≡ placeOf f t) wh
     own-body h = same (bodyBy f t place d) (body f t) (rw (p, q)) h
 
 pub ruleset laws =
-    (needs, block-parts, nothing-room, simple-room, subrange-room, string-room, array-room, entries-room, structure-room, block-room, reference-room, implicit-room, base-linked, subrange-spec, array-spec, array-in, structure-in, block-in, start-in, body-nothing, body-simple, body-subrange, body-string, body-array, body-structure, body-block, body-reference, body-unknown, body-implicit, type-fits, own-place, own-room, own-body)
+    (needs, block-parts, nothing-room, simple-room, subrange-room, string-room, array-room, entries-room, structure-room, block-room, reference-room, implicit-room, base-linked, subrange-spec, subrange-value, string-value, array-spec, array-in, structure-in, block-in, start-in, body-nothing, body-simple, body-subrange, body-string, body-array, body-structure, body-block, body-reference, body-unknown, body-implicit, type-fits, own-place, own-room, own-body)

@@ -18,13 +18,14 @@ use Rattle.definition.specs.Ask.{Result, ok, none, Outcome, Ask, done, give, no
 use Rattle.definition.specs.Defaults as Defaults
 use Rattle.definition.specs.Starting.{defaultOf, initializerBy, initializer}
 use Rattle.laws.specs.Accepted.{Accepted}
-use Rattle.laws.specs.Pointed.{InitializerPointed, initializer-pointed}
+use Rattle.laws.specs.Links.{Link}
+use Rattle.laws.specs.Pointed.{ConstantOf, InitializerPointed, initializer-pointed}
 use Rattle.build.specs.declared.built.Built.{Built}
 use Rattle.build.specs.declared.built.Built.the-variants.{Ends, None}
 use Rattle.build.specs.Built.{Builds}
 use Rattle.build.specs.Parts.{implicitLevels, startLevels}
 use Rattle.initial.specs.declared.values.Stated.the-variants as stated
-use Rattle.initial.specs.Stated.{statedAs, statedOr, arrayOr, membersOver, ArrayIn, MembersIn}
+use Rattle.initial.specs.Stated.{ValueIn, statedAs, statedOr, arrayOr, membersOver, ArrayIn, MembersIn}
 use Rattle.initial.specs.Rooms.{entryLevels, initLevelsBy, initLevels}
 use Rattle.initial.proofs.Alike.{same, no-value}
 
@@ -74,9 +75,22 @@ module _ (f : List ℕ) (place : Place) (at n : ℕ) where
       block-room e = max-right at (startLevels f place) (entryLevels f first many place) n (rw (← q, e) at h)
 
 -- ---- what the file has
+pub constants-in : (f : List ℕ) (kind value : ℕ) → Link (ConstantOf f kind) value → ValueIn f stated.Constant value
+constants-in f kind zero p = record { constant = tt }
+constants-in f kind (suc c) p = record { constant = p .0 }
+
 module _ {f : List ℕ} (a : Accepted f) {i : ℕ} (l : i < count f initializers) {v : Initializer} (q : v ≡ initializerAt f i) where
   points : {w : Initializer} → v ≡ w → InitializerPointed f w
   points e = subst (InitializerPointed f) (sym q ∙ e) (initializer-pointed f a i l)
+
+  pub subrange-value : {value : ℕ} → v ≡ init.Subrange value → ValueIn f stated.Constant value
+  subrange-value {value} e = constants-in f 1 value (points e)
+
+  pub simple-value : {value : ℕ} → v ≡ init.Simple value → ValueIn f stated.Constant value
+  simple-value e = record { constant = points e }
+
+  pub string-value : {value long width : ℕ} → v ≡ init.String value long width → ValueIn f stated.Constant value
+  string-value {value} e = constants-in f 8 value (points e)
 
   pub array-in : {first many : ℕ} → v ≡ init.Array first many → ArrayIn f first many
   array-in e = let p = points e in record { inside = p .0; entries = p .1 }
@@ -170,4 +184,4 @@ module _ (f : List ℕ) (i : ℕ) (place : Place) {v : Initializer} (q : v ≡ i
   init-none h = no-value (initializer f i place) (by-view refl ∙ no-view v h)
 
 pub ruleset laws =
-    (needs, start-room, array-room, structure-room, block-room, array-in, structure-in, block-in, init-nothing, init-subrange, init-simple, init-string, init-values, init-type, init-reference, init-late, init-block, init-structure, init-array, init-none)
+    (needs, start-room, array-room, structure-room, block-room, subrange-value, simple-value, string-value, array-in, structure-in, block-in, init-nothing, init-subrange, init-simple, init-string, init-values, init-type, init-reference, init-late, init-block, init-structure, init-array, init-none)

@@ -9,7 +9,7 @@ use borrow.Author.Needs.{needs}
 use borrow.Author.Tests.{ne-eqb, eq-eqb}
 use Rattle.definition.specs.declared.records.Place.{Place}
 use Rattle.definition.specs.Base.{choose, onLink, inline}
-use Rattle.definition.specs.Layout.{count, types}
+use Rattle.definition.specs.Layout.{count, types, constants}
 use Rattle.definition.specs.Syntax.{initsAt}
 use Rattle.definition.specs.Tree.{Tree, flatten, treeWords}
 use Rattle.definition.specs.Ask.{Result, ok, none, Outcome, Ask, done, give, nothing, _>>=_, typeDefault}
@@ -36,7 +36,8 @@ use Rattle.build.proofs.Peeks.{thenPeek, peek-then, NoEnd, gives-fails, EndsAt,
 use Rattle.build.proofs.Levels.{levels-implicit, levels-typed, levels-some}
 use Rattle.build.proofs.Smalls.{peek-to, default-small}
 use Rattle.initial.specs.declared.values.Stated.{Stated}
-use Rattle.initial.specs.Stated.{Lays, statedAs, statedOr, arrayOr, membersOver, SmallAt, Applies, SpecIn}
+use Rattle.initial.specs.declared.values.Stated.the-variants as what
+use Rattle.initial.specs.Stated.{ValueIn, StatedIn, Lays, statedAs, statedOr, arrayOr, membersOver, SmallAt, Applies, SpecIn}
 use Rattle.initial.proofs.Alike.{same, laid, no-value}
 
 -- ---- a link that states something or not
@@ -61,6 +62,15 @@ module _ {f known store : List ℕ} {at : ℕ} {old : List ℕ} {r : Built} {new
     pub array-stated : (place : Place) (first : ℕ) → Builds f known store flatten (arrayOf f place first value) at old r new → Builds f known store flatten (arrayOr f place first value other) at old r new
     unfolding arrayOr
     array-stated place first h = same (arrayOf f place first value) (arrayOr f place first value other) (rw (ne-eqb value 0 n)) h
+
+-- the number behind a link
+pub stated-in : {f : List ℕ} (what : Stated) (value : ℕ) → ValueIn f what value → (value ≡ 0 → ⊥) → StatedIn f what (value - 1)
+stated-in {f} what.Constant value i n =
+    let z : value ≡ suc (value - 1) = omega (arith, n) in
+    record { constant = link-to (λ c. c < count f constants) value (value - 1) z (i .constant) }
+stated-in what.Enumerated value i n = record { constant = tt }
+stated-in what.Reference value i n = record { constant = tt }
+stated-in what.Nothing value i n = record { constant = tt }
 
 -- ---- room
 pub start-some : (f : List ℕ) (place : Place) (at n : ℕ) → at + startLevels f place * 12288 ≤ n → at + 6 ≤ n
@@ -153,4 +163,4 @@ pub ready-starts : {f source known store : List ℕ} → Ready f source known st
 ready-starts y = y .accepted
 
 pub ruleset laws =
-    (needs, linked-type, stated-other, array-other, stated-value, array-stated, start-some, implicit-some, implicit-tree, name-none, name-typed, spec-inline, spec-named, spec-linked, over-fails, default-there, default-over, name-there, name-over)
+    (needs, linked-type, stated-in, stated-other, array-other, stated-value, array-stated, start-some, implicit-some, implicit-tree, name-none, name-typed, spec-inline, spec-named, spec-linked, over-fails, default-there, default-over, name-there, name-over)

@@ -1,14 +1,14 @@
 -- A law for each return of values.rt. Assumes nothing.
 use mathlib.Core.Path.{_≡_, refl, ap, sym, _∙_}
 use mathlib.Core.List.{List}
-use Prim.Native.Nat.{ℕ, _+_, _≤_}
+use Prim.Native.Nat.{ℕ, _+_, _≤_, _<_}
 use lib.Dec.{eqb}
 use borrow.Author.Needs.{needs}
 use borrow.Author.Tests.{ne-eqb, eq-eqb}
 use Rattle.definition.specs.declared.records.Constant.{Constant}
 use Rattle.definition.specs.declared.records.Place.{Place}
 use Rattle.definition.specs.Base.{pick}
-use Rattle.definition.specs.Layout.{word, entries, expressions}
+use Rattle.definition.specs.Layout.{word, count, entries, expressions, constants}
 use Rattle.definition.specs.Records.{constantAt}
 use Rattle.definition.specs.Tree.{Tree, flatten, constantTree, nullTree, referenceTree}
 use Rattle.definition.specs.Ask.{Result, ok, none, Outcome, Ask, done, give}
@@ -24,15 +24,15 @@ use Rattle.build.specs.Built.{Gives, Puts}
 use Rattle.build.specs.declared.built.Built.the-variants.{None}
 use Rattle.initial.specs.declared.values.Stated.{Stated}
 use Rattle.initial.specs.declared.values.Stated.the-variants as stated
-use Rattle.initial.specs.Stated.{Lays, statedAs}
+use Rattle.initial.specs.Stated.{StatedIn, Lays, statedAs}
 
 module _ {at : ℕ} {old : List ℕ} {r : Built} {new : List ℕ} {o : Outcome} (x : Puts flatten (got o) at old r new) where
   lays-done : (m : Ask Outcome) → m ≡ done o → Lays m at old r new
   lays-done m e = record { gives = λ M. rw (e, peek-done M o) (x .gives); kept = x .kept }
 
-  pub lays-constant : (f : List ℕ) (place : Place) (c : ℕ) {v : Constant} → v ≡ constantAt f c → o ≡ constantValue f (place .shape) v → Lays (constantAs f place c) at old r new
+  pub lays-constant : (f : List ℕ) (place : Place) (c : ℕ) → o ≡ constantValue f (place .shape) (constantAt f c) → Lays (constantAs f place c) at old r new
   unfolding Defaults.constantAs
-  lays-constant f place c i e = lays-done (constantAs f place c) (ap done (sym (e ∙ ap (constantValue f (place .shape)) i)))
+  lays-constant f place c e = lays-done (constantAs f place c) (ap done (sym e))
 
   pub lays-enumerated : (f : List ℕ) (place : Place) (e : ℕ) {v q : ℕ} → v ≡ word f entries e 2 → q ≡ word f entries e 3 → o ≡ enumeratedValue f (place .shape) v q
       → Lays (enumeratedAs f place e) at old r new
@@ -46,6 +46,9 @@ module _ {at : ℕ} {old : List ℕ} {r : Built} {new : List ℕ} {o : Outcome} 
 pub lays-null : {at : ℕ} {old : List ℕ} {r : Built} {new : List ℕ} (c : Constant) → constantTree c ≡ nullTree → Puts flatten (got (asTree (ok c))) at old r new → Lays (give nullTree) at old r new
 unfolding asTree
 lays-null c e x = record { gives = λ M. rw (peek-give M nullTree, ← e) (x .gives); kept = x .kept }
+
+pub constant-inside : {f : List ℕ} {what : Stated} {n : ℕ} → StatedIn f what n → what ≡ stated.Constant → n < count f constants
+constant-inside i e = rw e at (i .constant)
 
 pub place-shape : {f : List ℕ} {place : Place} → PlaceIn f place → ShapeIn f (place .shape)
 place-shape i = i .shape
@@ -78,4 +81,4 @@ pub stated-nothing : (f : List ℕ) (place : Place) (n : ℕ) {what : Stated} {a
 unfolding statedAs
 stated-nothing f place n e = rw e (record { gives = λ M. rw (peek-nothing M) (record { says = refl; stands = tt }); kept = refl })
 
-pub ruleset laws = (needs, lays-constant, lays-enumerated, lays-reference, lays-null, stated-constant, stated-enumerated, stated-reference, stated-nothing, place-shape, reference-null, reference-named)
+pub ruleset laws = (needs, lays-constant, lays-enumerated, lays-reference, lays-null, stated-constant, stated-enumerated, stated-reference, stated-nothing, constant-inside, place-shape, reference-null, reference-named)

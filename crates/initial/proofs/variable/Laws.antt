@@ -58,7 +58,7 @@ module _ (f : List ℕ) (v : ℕ) {i : ℕ} (q : i ≡ word f variables v 3) whe
 
   module _ (w : Found) (k : placeIn w ≡ variablePlace f v i) {p : Place} (e : w ≡ found.Place p) where
     pub variable-place : Accepted f → v < count f variables → PlaceIn f p
-    variable-place a l = variable-found f a v i (variable-points f a v l .0) k e
+    variable-place a l = variable-found f a v i (variable-points f a v l .0) (variable-init a l) k e
 
     levels : variableLevels f v ≡ initLevels f i p
     unfolding variableLevels

@@ -10,7 +10,7 @@ use Rattle.definition.specs.declared.records.Constant.{Constant}
 use Rattle.definition.specs.declared.records.Expression.{Expression}
 use Rattle.definition.specs.declared.records.Expression.the-variants as expression
 use Rattle.definition.specs.Base.{pick}
-use Rattle.definition.specs.Layout.{word, count, entries, expressions}
+use Rattle.definition.specs.Layout.{word, count, entries, expressions, constants}
 use Rattle.definition.specs.Records.{constantAt, expressionAt}
 use Rattle.definition.specs.Shapes.{isReference}
 use Rattle.definition.specs.Tree.{constantTree, nullTree, expressionTree}
@@ -47,14 +47,14 @@ module _ (f : List ℕ) (a : Accepted f) (s : Shape) (x : ℕ) (l : x < count f 
   decoded q = expr-is f a x l ∙ ap (exprFrom f (exprAt f) x) (sym is ∙ q)
 
   module _ {r : Outcome} where
-    module _ {number : ℕ} (q : e ≡ expression.Constant number) {c : Constant} (p : c ≡ constantAt f number) (h : r ≡ constantValue f s c) where
+    module _ {number : ℕ} (q : e ≡ expression.Constant number) (h : r ≡ constantValue f s (constantAt f number)) where
       pub from-constant : r ≡ expressionValue f s (exprAt f x)
       unfolding expressionBy exprFrom
-      from-constant = rw (decoded q, ← p) h
+      from-constant = rw (decoded q) h
 
       pub over-constant : (n : ℕ) → r ≡ expressionValue f s (Expr.conversion n (exprAt f x))
       unfolding expressionBy exprFrom
-      over-constant n = rw (decoded q, ← p) h
+      over-constant n = rw (decoded q) h
 
     module _ {entry : ℕ} (q : e ≡ expression.Enumerated entry) (h : r ≡ enumeratedValue f s (word f entries entry 2) (word f entries entry 3)) where
       pub from-enumerated : r ≡ expressionValue f s (exprAt f x)
@@ -83,6 +83,9 @@ module _ (f : List ℕ) (a : Accepted f) (s : Shape) (x : ℕ) (l : x < count f 
     pub from-other : Other e → r ≡ ok (expressionTree x) → r ≡ expressionValue f s (exprAt f x)
     from-other o h = h ∙ kept f s (exprAt f) x e o ∙ ap (expressionValue f s) (sym (decoded refl))
 
+  pub constant-inside : {number : ℕ} → e ≡ expression.Constant number → number < count f constants
+  constant-inside q = rw (sym is ∙ q) at (expression-pointed f a x l)
+
   pub inner-lower : {inner : ℕ} → e ≡ expression.Parentheses inner → inner < x
   inner-lower q = rw (sym is ∙ q) at (expression-pointed f a x l)
 
@@ -96,4 +99,4 @@ module _ (f : List ℕ) (a : Accepted f) (s : Shape) (x : ℕ) (l : x < count f 
   converted-lower {inner} q = let p : inner < x = rw (sym is ∙ q) at (expression-pointed f a x l) in omega arith
 
 pub ruleset laws =
-    (needs, entry-value, later-is, null-is, no-null, from-constant, over-constant, from-enumerated, over-enumerated, over-other, from-parentheses, from-conversion, from-null, from-other, inner-inside, inner-falls, converted-lower)
+    (needs, entry-value, later-is, null-is, no-null, from-constant, over-constant, from-enumerated, over-enumerated, over-other, from-parentheses, from-conversion, from-null, from-other, constant-inside, inner-inside, inner-falls, converted-lower)

@@ -1,7 +1,7 @@
 -- A law for each return of values.rt, and what its calls require. Assumes nothing.
 use mathlib.Core.Path.{_≡_, refl, ap, _∙_}
 use mathlib.Core.List.{List, [], _∷_}
-use Prim.Native.Nat.{ℕ, zero, suc, _+_, _-_, _*_, _^_, _≤_}
+use Prim.Native.Nat.{ℕ, zero, suc, _+_, _-_, _*_, _^_, _≤_, _<_}
 use native.Mathlib.Omega.{arith}
 use lib.ListN.{length, getD, take, drop, length-drop}
 use lib.Seq.{length-take-le, getD-take, getD-drop}
@@ -13,7 +13,7 @@ use Rattle.definition.proofs.records.Shape.{the-type}
 use Rattle.definition.specs.declared.records.Shape.{Shape}
 use Rattle.definition.specs.declared.records.Shape.the-variants as shape
 use Rattle.definition.specs.declared.records.Constant.{Constant}
-use Rattle.definition.specs.Layout.{word, count, countAt, behind, recordWords, wordsOfRecords, settings, members}
+use Rattle.definition.specs.Layout.{word, count, countAt, behind, recordWords, wordsOfRecords, settings, members, constants}
 use Rattle.definition.specs.Records.{constantAt}
 use Rattle.definition.specs.Accept.{endsRight}
 use Rattle.definition.specs.Ask.{Result, none, Outcome}
@@ -21,10 +21,10 @@ use Rattle.definition.specs.Scalar.{converted, asTree, constantValue, builtIn, 
 use Rattle.laws.specs.Accepted.{Accepted}
 use Rattle.records.specs.Starts.{StartsOf}
 use Rattle.records.proofs.Starting.{start-most}
-use Rattle.scalar.specs.Convert.{Bounds, convertedBy, converted-is}
+use Rattle.scalar.specs.Convert.{Bounds, Counts, convertedBy, converted-is}
 use Rattle.scalar.specs.Default.{implicitBy, implicit-is}
 use Rattle.scalar.specs.Members.{Run, enumeratedBy, enumerated-is}
-use Rattle.places.specs.Inside.{ShapeIn}
+use Rattle.places.specs.Inside.{ShapeIn, counts-in}
 use Rattle.places.specs.Values.{DefaultName}
 use Rattle.places.proofs.Others.{NoMembers, memberless, no-members}
 
@@ -45,9 +45,12 @@ pub converted-in : (f : List ℕ) (s : Shape) (c : Constant) {low high : Constan
     → Bounds f s low high → setting ≡ word f settings 0 0 → r ≡ convertedBy s c low high setting → r ≡ converted f s c
 converted-in f s c {low} {high} b e k = k ∙ (rw e (converted-is f s c low high b))
 
-pub constant-is : (f : List ℕ) (s : Shape) (c : Constant) {r : Result Constant} → r ≡ converted f s c → asTree r ≡ constantValue f s c
+pub constant-counts : {f : List ℕ} → Accepted f → {s : Shape} → ShapeIn f s → (n : ℕ) → n < count f constants → {c : Constant} → c ≡ constantAt f n → Counts s c
+constant-counts {f} a {s} i n h e = rw e (counts-in f a s n i h)
+
+pub constant-is : (f : List ℕ) (s : Shape) (n : ℕ) {c : Constant} → c ≡ constantAt f n → {r : Result Constant} → r ≡ converted f s c → asTree r ≡ constantValue f s (constantAt f n)
 unfolding constantValue
-constant-is f s c e = ap asTree e
+constant-is f s n e h = rw (← e) (ap asTree h)
 
 -- ---- `member_at`, `member_names`
 module _ {f starts : List ℕ} (i : StartsOf f starts) where
@@ -112,4 +115,4 @@ implicit-in f s {low} b {member} d w h =
     (record { of-subrange = λ base l g e. b .of-subrange base l g e .0; of-enumeration = λ first many default underlying e l. d .of-enumeration first many default underlying e })
 
 pub ruleset laws =
-    (needs, subrange-bounds, no-bounds, converted-in, constant-is, members-start, member-is, members-end, members-run, members-inside, enumerated-by, no-enumeration, default-member, no-default, implicit-in)
+    (needs, subrange-bounds, no-bounds, converted-in, constant-counts, constant-is, members-start, member-is, members-end, members-run, members-inside, enumerated-by, no-enumeration, default-member, no-default, implicit-in)

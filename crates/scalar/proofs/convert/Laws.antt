@@ -19,8 +19,8 @@ use Rattle.definition.specs.Ask.{Result, ok, none}
 use Rattle.definition.specs.Ieee.{rounded}
 use Rattle.definition.specs.Iec.{between, inRange}
 use Rattle.definition.specs.Scalar.{sizeOf, valueOf, isInteger, kept, asBool, asInteger, asReal, asCount}
-use Rattle.scalar.specs.String.{cutBy}
-use Rattle.scalar.specs.Convert.{asStringBy, convertedBy}
+use Rattle.scalar.specs.String.{cutBy, Countable}
+use Rattle.scalar.specs.Convert.{asStringBy, convertedBy, Counts}
 use Rattle.scalar.proofs.NoScalar.{noScalars, no-scalar}
 
 -- ---- `kept`, also behind a test that is known
@@ -95,6 +95,13 @@ module _ (c : Constant) where
     real-other n k = rw (ne-eqb _ _ n) k
 
   -- ---- strings
+  module _ (length width : ℕ) where
+    pub string-counted : Counts (shape.String length width) c → c .kind ≡ 8 → Countable width (c .high)
+    string-counted h k = h .of-string length width refl k
+
+    pub shape-counted : {s : Shape} → Counts s c → s ≡ shape.String length width → Counts (shape.String length width) c
+    shape-counted h e = rw e at h
+
   module _ (setting length width : ℕ) where
     pub string-kept : {x : Result Constant} → c .kind ≡ 8 → x ≡ cutBy setting length width (c .low) (c .high) → x ≡ asStringBy setting length width c
     unfolding asStringBy
@@ -165,6 +172,6 @@ module _ (c least greatest : Constant) (setting : ℕ) (s : Shape) where
       unfolding convertedBy asCount
       to-date-and-time e h k = rw (e, ← h) k
 
-pub ruleset arms = (needs, other-none, enumeration-none, to-bool, to-real, to-string, to-subrange, to-int, to-uint, to-bytes, to-time, to-date, to-time-of-day, to-date-and-time)
+pub ruleset arms = (needs, shape-counted, other-none, enumeration-none, to-bool, to-real, to-string, to-subrange, to-int, to-uint, to-bytes, to-time, to-date, to-time-of-day, to-date-and-time)
 
-pub ruleset laws = (needs, kept-yes, kept-no, both-kept, first-none, kind-kept, kind-none, bit-integer, bit-signed, bit-other, whole-integer, whole-other, bool-bit, bool-other, real-integer, real-other, string-kept, string-none, low-fits)
+pub ruleset laws = (needs, kept-yes, kept-no, both-kept, first-none, kind-kept, kind-none, bit-integer, bit-signed, bit-other, whole-integer, whole-other, bool-bit, bool-other, real-integer, real-other, string-counted, string-kept, string-none, low-fits)

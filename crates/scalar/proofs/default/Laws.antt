@@ -16,6 +16,7 @@ use Rattle.definition.specs.Tree.{constantTree, enumeratedTree, nullTree}
 use Rattle.definition.specs.Ask.{Result, Outcome, ok, none}
 use Rattle.definition.specs.Scalar.{asTree, zeroOf, long, asIntegerTree}
 use Rattle.scalar.specs.String.{cutBy}
+use Rattle.scalar.proofs.string.Laws.{none-counted}
 use Rattle.scalar.specs.Default.{implicitBy}
 use Rattle.scalar.proofs.NoScalar.{noScalars, no-scalar}
 
@@ -114,4 +115,4 @@ module _ (s : Shape) (least : Constant) (member setting : ℕ) where
         unfolding implicitBy
         from-date-and-time e h = rw (e, ← w) h
 
-pub ruleset laws = (needs, is-long, is-short, zero-tree, integer-tree, from-other, from-string, from-reference, from-enumeration, past-members, from-bool, from-subrange, from-int, from-uint, from-real, from-bytes, from-time, from-date, from-time-of-day, from-date-and-time)
+pub ruleset laws = (needs, none-counted, is-long, is-short, zero-tree, integer-tree, from-other, from-string, from-reference, from-enumeration, past-members, from-bool, from-subrange, from-int, from-uint, from-real, from-bytes, from-time, from-date, from-time-of-day, from-date-and-time)

@@ -1,8 +1,8 @@
 -- A law for each return of string.rt. Assumes nothing.
 use mathlib.Core.Path.{_≡_, refl, sym}
 use mathlib.Core.List.{List, []}
-use Prim.Native.Nat.{ℕ, zero, suc, _+_, _-_, _≤_, _<_, min}
-use native.Mathlib.Nat.{le-of-lt, add-sub-cancel-left}
+use Prim.Native.Nat.{ℕ, zero, suc, _+_, _-_, _*_, _^_, _≤_, _<_, min}
+use native.Mathlib.Nat.{le-of-lt, add-sub-cancel-left, min-le-left}
 use native.Mathlib.Omega.{arith}
 use borrow.Author.Needs.{needs}
 use borrow.Author.Tests.{le-leb, lt-leb, ne-eqb}
@@ -13,7 +13,7 @@ use Rattle.definition.specs.Records.{constantOf}
 use Rattle.definition.specs.Ask.{ok, none}
 use Rattle.scalar.specs.declared.string.MaxLength.{MaxLength}
 use Rattle.scalar.specs.declared.string.MaxLength.the-variants as most
-use Rattle.scalar.specs.String.{lengthOf, maxLengthBy, stringOf, cutBy}
+use Rattle.scalar.specs.String.{lengthOf, maxLengthBy, stringOf, cutBy, Countable}
 
 -- ---- `max_length`
 module _ (setting : ℕ) where
@@ -49,9 +49,24 @@ module _ (setting length width first count : ℕ) {r : MaxLength} (h : lengthOf 
   unfolding cutBy
   cut-none e = rw (← h, e)
 
-  pub cut-value : {n : ℕ} → r ≡ most.Most n → {k : ℕ} → k ≡ min count n → {c : Constant} → c ≡ stringOf first k width → ok c ≡ cutBy setting length width first count
+  pub cut-value : {n : ℕ} → r ≡ most.Most n → {k : ℕ} → k ≡ min count n → {c : Constant} → c ≡ stringOf first k (width + 2 * (count - k))
+      → ok c ≡ cutBy setting length width first count
   unfolding cutBy
   cut-value e m s = rw (← h, e, s, m)
+
+-- the characters cut are counted in a word
+pub held-below : (count n : ℕ) {k : ℕ} → k ≡ min count n → k ≤ count
+held-below count n m = rw m (min-le-left count n)
+
+module _ (width : ℕ) {count : ℕ} (k : ℕ) (h : Countable width count) where
+  pub cut-doubled : 2 * (count - k) < 2 ^ 32
+  cut-doubled = omega (arith, h .fits)
+
+  pub cut-counted : width + 2 * (count - k) < 2 ^ 32
+  cut-counted = omega (arith, h .fits)
+
+pub none-counted : (width : ℕ) → width < 2 ^ 32 → Countable width 0
+none-counted width h = record { fits = omega (arith, h) }
 
 -- ---- `string_value`
 module _ (xs : List ℕ) (first count most : ℕ) {n : ℕ} (e : n ≡ min count most) where
@@ -66,4 +81,4 @@ module _ (xs : List ℕ) (first count most : ℕ) {n : ℕ} (e : n ≡ min count
   pub part-none : length xs < first → [] ≡ take (min count most) (drop first xs)
   part-none h = rw (drop-of-length-le xs (le-of-lt h), take-nil)
 
-pub ruleset laws = (needs, undeclared, declared, above, empty-run, whole-run, cut-none, cut-value, part-whole, part-left, part-none)
+pub ruleset laws = (needs, undeclared, declared, above, empty-run, whole-run, cut-none, cut-value, held-below, cut-doubled, cut-counted, part-whole, part-left, part-none)

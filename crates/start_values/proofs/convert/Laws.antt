@@ -1,34 +1,42 @@
 -- A law for each return of convert.rt. Assumes nothing.
-use mathlib.Core.Path.{_≡_, refl}
+use mathlib.Core.Path.{_≡_, refl, sym, _∙_}
 use mathlib.Core.Bool.{Bool, true, false}
 use mathlib.Core.List.{List, [], _∷_}
 use Prim.Native.Nat.{ℕ, _≤_, _<_}
 use native.Mathlib.Omega.{arith}
-use lib.Dec.{ltb}
+use lib.Dec.{eqb, ltb}
 use lib.ListN.{length, getD, set, drop}
 use borrow.Author.Needs.{needs}
-use borrow.Author.Tests.{lt-ltb, le-ltb, le-leb, lt-leb, ne-eqb}
+use borrow.Author.Tests.{lt-ltb, le-ltb, le-leb, lt-leb, ne-eqb, eq-eqb, eqb-true, ltb-true}
 use Rattle.definition.specs.declared.records.Shape.{Shape}
 use Rattle.definition.specs.declared.records.Constant.{Constant}
 use Rattle.definition.specs.declared.answers.TreeAnswer.the-variants as tree
 use Rattle.definition.specs.Layout.{count, shapes, constants}
 use Rattle.definition.specs.Records.{shapeAt, constantAt}
-use Rattle.definition.specs.Accept.{verdict}
+use Rattle.definition.specs.Base.{choose}
+use Rattle.definition.specs.Accept.{verdict, need}
 use Rattle.definition.specs.Tree as tree-definition
 use Rattle.definition.specs.Tree.{flatten, flattenAll, nodes, nodesIn, constantTree}
-use Rattle.definition.specs.Ask.{Result, ok}
-use Rattle.definition.specs.Scalar.{converted, asTree, constantValue}
+use Rattle.definition.specs.Ask.{ok, Outcome}
+use Rattle.definition.specs.Scalar.{asTree, constantValue}
 use Rattle.definition.specs.Answers.{Says, passCode, treeSays, acceptAnswer, over, treeAnswer, treeOut}
+use Rattle.laws.specs.Cases.{never, both}
+use Rattle.laws.specs.Accepted.{accepted}
+use Rattle.places.specs.Inside.{ShapeIn, shape-in}
 use Rattle.scalar.specs.declared.node.Leaf.{Leaf}
 use Rattle.scalar.specs.declared.node.Leaf.the-variants as leaf
 use Rattle.scalar.specs.Node.{resultOf}
-use Rattle.start_values.specs.Convert.{there, convertRefused, valueAt, convertAnswer, convertOut}
+use Rattle.start_values.specs.Convert.{there, Both, convertRefused, valueAt, convertAnswer, convertOut}
 use Rattle.start_values.proofs.Numbers.{verdict-code}
 
 -- ---- `value_at`
-pub converted-at : (f : List ℕ) {s : Shape} {c : Constant} (n m : ℕ) {r : Result Constant}
-    → s ≡ shapeAt f n → c ≡ constantAt f m → r ≡ converted f s c → r ≡ converted f (shapeAt f n) (constantAt f m)
-converted-at f n m p q k = rw (← p, ← q) k
+module _ {f : List ℕ} {shape constant : ℕ} {s : Shape} (is : s ≡ shapeAt f shape) where
+  pub shape-at : Both f shape constant → ShapeIn f s
+  shape-at b = rw is (shape-in f (b .accepted) shape (b .shape-there))
+
+  pub value-is : {r : Outcome} → r ≡ constantValue f s (constantAt f constant) → r ≡ valueAt f shape constant
+  unfolding valueAt
+  value-is h = rw (← is) h
 
 -- ---- `there`
 module _ (f : List ℕ) (shape constant : ℕ) {n : ℕ} (is : n ≡ count f shapes) where
@@ -57,6 +65,21 @@ module _ (f : List ℕ) (shape constant : ℕ) {v : ℕ} (code : v ≡ passCode 
     pub refused-missing : t ≡ false → 7 ≡ convertRefused f shape constant
     unfolding convertRefused
     refused-missing h = rw (← is, z, ← e, h)
+
+pub both-so : (f : List ℕ) (shape constant : ℕ) {n : ℕ} → n ≡ convertRefused f shape constant → n ≡ 0 → Both f shape constant
+unfolding convertRefused there
+both-so f shape constant e z = go (eqb (verdict f) 0) refl (there f shape constant) refl (sym e ∙ z)
+  where
+    go : (a : Bool) → eqb (verdict f) 0 ≡ a → (b : Bool) → there f shape constant ≡ b → choose a (λ u. need b 7 (λ v. 0)) (λ u. verdict f) ≡ 0 → Both f shape constant
+    go true p true q r =
+        let t = both (ltb shape (count f shapes)) (ltb constant (count f constants)) q in
+        record {
+          accepted = accepted f (eqb-true (verdict f) 0 p);
+          shape-there = ltb-true shape (count f shapes) (t .0);
+          constant-there = ltb-true constant (count f constants) (t .1);
+        }
+    go true p false q r = absurd (omega (arith, r))
+    go false p b q r = never (sym p ∙ eq-eqb (verdict f) 0 r)
 
 -- ---- `put`
 pub six-words : (l : List ℕ) (a b c d e g : ℕ) → 6 ≤ length l → set (set (set (set (set (set l 0 a) 1 b) 2 c) 3 d) 4 e) 5 g ≡ a ∷ b ∷ c ∷ d ∷ e ∷ g ∷ drop 6 l
@@ -96,22 +119,22 @@ module _ (f : List ℕ) (shape constant : ℕ) {n : ℕ} (is : n ≡ convertRefu
   unfolding convertOut
   refusal-keeps h out = rw (← is, ne-eqb n 0 h)
 
-  module _ (z : n ≡ 0) {l : Leaf} (e : resultOf l ≡ converted f (shapeAt f shape) (constantAt f constant)) where
+  module _ (z : n ≡ 0) {l : Leaf} (e : asTree (resultOf l) ≡ valueAt f shape constant) where
     pub none-says : l ≡ leaf.None → (out : ℕ) → treeSays tree.None ≡ convertAnswer f shape constant out
-    unfolding convertAnswer valueAt constantValue asTree treeAnswer treeSays
+    unfolding convertAnswer asTree treeAnswer treeSays
     none-says h out = rw (← is, z, ← e, h)
 
     pub none-keeps : l ≡ leaf.None → (out : List ℕ) → out ≡ convertOut f shape constant out
-    unfolding convertOut valueAt constantValue asTree treeOut
+    unfolding convertOut asTree treeOut
     none-keeps h out = rw (← is, z, ← e, h)
 
     module _ {c : Constant} (h : l ≡ leaf.Value c) where
       pub value-says : (out : ℕ) {r : Says} → r ≡ treeAnswer (ok (constantTree c)) out → r ≡ convertAnswer f shape constant out
-      unfolding convertAnswer valueAt constantValue asTree
+      unfolding convertAnswer asTree
       value-says out k = rw (← is, z, ← e, h) k
 
       pub value-wrote : (out : List ℕ) {after : List ℕ} → after ≡ over (flatten (constantTree c)) out → after ≡ convertOut f shape constant out
-      unfolding convertOut valueAt constantValue asTree treeOut
+      unfolding convertOut asTree treeOut
       value-wrote out k = rw (← is, z, ← e, h) k
 
-pub ruleset conversions = (needs, converted-at, both-there, not-there, refused-file, refused-nothing, refused-missing, no-room-says, no-room-keeps, room-says, room-wrote, refusal-says, refusal-keeps, none-says, none-keeps, value-says, value-wrote)
+pub ruleset conversions = (needs, shape-at, value-is, both-so, both-there, not-there, refused-file, refused-nothing, refused-missing, no-room-says, no-room-keeps, room-says, room-wrote, refusal-says, refusal-keeps, none-says, none-keeps, value-says, value-wrote)

@@ -9,6 +9,5 @@ constant-start-spec =
     (tie.spec
     (λ c κs. search laws)
     (λ c κs. search laws)
-    (λ c κs. search laws)
     (λ c. search laws)
     (λ c. search laws))

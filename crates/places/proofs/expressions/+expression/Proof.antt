@@ -11,7 +11,6 @@ use Rattle.places.proofs.expressions.conversion.Reads as conversion-rea
 use Rattle.places.proofs.expressions.enumerated_entry.Reads as enumerated-entry-reads
 use Rattle.places.proofs.expressions.later.Reads as later-reads
 use Rattle.places.proofs.expressions.null_value.Reads as null-value-reads
-use Rattle.records.proofs.view.constant_at.Reads as constant-at-reads
 use Rattle.records.proofs.view.expression_at.Reads as expression-at-reads
 use Rattle.places.proofs.expressions.+expression.{statement}
 use Rattle.places.proofs.expressions.+expression.Tie.{close}
@@ -30,12 +29,11 @@ expression-below t =
 pub +expression-spec : {M : Type 1} → statement M
 +expression-spec =
     close μ-expression λ t. expression-lts.spec
-    (expression-at-reads.Asked, expression-at-reads.Learnt, constant-at-reads.Asked, constant-at-reads.Learnt, constant-value-reads.Asked, constant-value-reads.Learnt, enumerated-entry-reads.Asked, enumerated-entry-reads.Learnt, expression-below t, expression.Post, conversion-reads.Asked, conversion-reads.Learnt, null-value-reads.Asked, null-value-reads.Learnt, later-reads.Asked, later-reads.Learnt)
+    (expression-at-reads.Asked, expression-at-reads.Learnt, constant-value-reads.Asked, constant-value-reads.Learnt, enumerated-entry-reads.Asked, enumerated-entry-reads.Learnt, expression-below t, expression.Post, conversion-reads.Asked, conversion-reads.Learnt, null-value-reads.Asked, null-value-reads.Learnt, later-reads.Asked, later-reads.Learnt)
     (expression-at t)
     expression.Post
     (λ c κs. search laws)
     (λ c. search laws)
-    (λ c κs. search laws)
     (λ c κs. search laws)
     (λ c. search laws)
     (λ c κs. search laws)

@@ -10,7 +10,6 @@ conversion-spec =
     (λ c κs. search laws)
     (λ c. search laws)
     (λ c κs. search laws)
-    (λ c κs. search laws)
     (λ c. search laws)
     (λ c κs. search laws)
     (λ c κs. search laws)

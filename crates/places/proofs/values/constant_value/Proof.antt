@@ -8,4 +8,5 @@ constant-value-spec =
     tie.close
     (tie.spec
     (λ c κs. search laws)
+    (λ c κs. search laws)
     (λ c. search laws))
