@@ -42,6 +42,11 @@ pub mod Decoded
 pub mod Implicit
 pub mod Depths
 pub mod SameShapes
+-- ---- the characters cut
+pub mod Uncut
+pub mod Alike
+pub mod TwoLeaves
+pub mod Uncounted
 -- ---- sheets
 pub mod Cuts
 pub mod Passing

@@ -23,11 +23,11 @@ widthIn s = onString s 0 (λ length width. width)
 width-rule : (a b c d kind : ℕ) → shapePlain kind a b c d ≡ true → widthIn (shapeOf kind a b c d) ≤ 1
 unfolding shapePlain shapeOf
 width-rule a b c d =
-    by-kind 17 (λ k. shapePlain k a b c d ≡ true → widthIn (shapeOf k a b c d) ≤ 1)
-    (λ e. lit≤ tt) (λ e. lit≤ tt) (λ e. lit≤ tt) (λ e. lit≤ tt) (λ e. lit≤ tt) (λ e. lit≤ tt) (λ e. lit≤ tt) (λ e. lit≤ tt) (λ e. lit≤ tt)
-    (λ e. leb-true b 1 (both (leb b 1) (unused (c ∷ d ∷ [])) e .0))
-    (λ e. lit≤ tt) (λ e. lit≤ tt) (λ e. lit≤ tt) (λ e. lit≤ tt) (λ e. lit≤ tt) (λ e. lit≤ tt) (λ e. lit≤ tt)
-    (λ k e. lit≤ tt)
+    by-kind 17 (λ k. shapePlain k a b c d ≡ true → widthIn (shapeOf k a b c d) ≤ 1) no no no no no no no no no
+    (λ e. leb-true b 1 (both (leb b 1) (unused (c ∷ d ∷ [])) e .0)) no no no no no no no (λ k. no)
+  where
+    no : {X : Type 0} → X → 0 ≤ 1
+    no x = lit≤ tt
 
 module _ (f : List ℕ) (a : Accepted f) where
   pub shape-width : (n : ℕ) → n < count f shapes → widthIn (shapeAt f n) ≤ 1
