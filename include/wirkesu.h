@@ -3,6 +3,9 @@
  * A slice is a pointer and a number of words or bytes; a pointer of an empty slice must not be null. Slices must not overlap. Every function reads and
  * writes only the slices that it is lent. `lines` and `room` are work words: any words before a call, all 0 after it. A refusal writes nothing else.
  *
+ * A node is six words: a name, a kind, and a constant's sign, low and high word and width. The last word of a string is its width plus 2 times the
+ * characters that were cut where the literal met its place.
+ *
  * Where an answer is a uint64_t, a refusal's number stands in the high 32 bits, and the value in the low ones. The refusals, in checking order:
  *   1  the words end before or after the last section does          8  a tree has more than 2,048 nodes
  *   2  a section has too many records, or Settings not one          9  the uses of types run in a circle

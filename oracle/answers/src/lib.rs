@@ -34,7 +34,7 @@ pub struct Answers {
 
 /// The types and variables whose work met document 01's limit on trees. The
 /// Rust has no such limit: there are some only with the feature `limited`.
-#[derive(Debug, Default, PartialEq)]
+#[derive(Clone, Debug, Default, PartialEq)]
 pub struct Large {
     pub types: BTreeSet<u32>,
     pub variables: BTreeSet<u32>,

@@ -11,7 +11,8 @@ mod writing;
 use crate::layout::File;
 use parts::{Misfit, Part};
 
-/// Name, kind, sign, low, high, width.
+/// Name, kind, sign, low, high, width; a string's last word is its width plus
+/// 2 × the characters cut (document 02, Q-2).
 pub type Node = [u32; 6];
 
 /// A node that its place cannot hold, or bytes that no tree is written as.

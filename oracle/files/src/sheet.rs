@@ -15,6 +15,33 @@ pub struct Lines {
 /// Words of a node.
 const NODE: usize = 6;
 
+/// The kind of a string's node.
+const STRING: u32 = 8;
+
+/// Leaves the characters cut out of the words of nodes: the last of a string's
+/// is its width plus 2 × those (document 02, Q-2).
+pub fn leave_out_cut(nodes: &mut [u32]) {
+    for node in nodes.chunks_exact_mut(NODE).filter(|node| node[1] == STRING) {
+        node[NODE - 1] %= 2;
+    }
+}
+
+impl Lines {
+    /// The lines with the characters cut left out.
+    pub fn without_cut(&self) -> Lines {
+        let of = |lines: &[Vec<u32>], head: usize| -> Vec<Vec<u32>> {
+            let mut lines = lines.to_vec();
+            lines.iter_mut().for_each(|line| leave_out_cut(&mut line[head..]));
+            lines
+        };
+        Lines {
+            types: of(&self.types, 2),
+            variables: of(&self.variables, 2),
+            completed: of(&self.completed, 3),
+        }
+    }
+}
+
 // Uses.
 
 /// The type that a link or a name leads to; none where it is 0 or inline.
@@ -173,32 +200,33 @@ fn read_section(words: &[u32], part: Part, count: usize, at: usize) -> Option<(V
     Some((lines, begin))
 }
 
-/// The lines of a sheet, with the ranks.
-fn read(file: &File, words: &[u32]) -> Option<Lines> {
+/// The ranks of a sheet, and its lines; none where it is no sheet of the file.
+pub fn read(file: &File, words: &[u32]) -> Option<(Vec<u32>, Lines)> {
     let [types, variables] = [TYPES, VARIABLES].map(|section| file.count(section));
     let (types, at) = read_section(words, Part::Types, types, 0)?;
     let (lines, at) = read_section(words, Part::Variables, variables, at)?;
     let (completed, at) = read_section(words, Part::Completed, variables, at)?;
-    (at == words.len()).then_some(Lines {
-        types,
+    let ranks = types.iter().map(|line| line[0]).collect();
+    let lines = Lines {
+        types: types.iter().map(|line| line[1..].to_vec()).collect(),
         variables: lines,
         completed,
-    })
+    };
+    (at == words.len()).then_some((ranks, lines))
 }
 
 /// The first of the refusals 11 to 13 that the sheet `words` of an accepted
 /// file meets, or 0; `right` has the fixed words of its lines.
 pub fn check(file: &File, words: &[u32], right: &Lines) -> u32 {
-    let Some(lines) = read(file, words) else {
+    let Some((ranks, lines)) = read(file, words) else {
         return 11;
     };
-    let rank = |number: u32| lines.types[number as usize][0];
+    let rank = |number: u32| ranks[number as usize];
     let rise = |number: u32| uses(file, number).into_iter().all(|other| rank(other) < rank(number));
     if !(0..file.count(TYPES) as u32).all(rise) {
         return 12;
     }
-    let types = lines.types.iter().map(|line| line[1..].to_vec()).collect();
-    match (Lines { types, ..lines }) == *right {
+    match lines == *right {
         true => 0,
         false => 13,
     }

@@ -1,5 +1,6 @@
 //! Runs the Rust on declaration files, each within a limit of time and memory.
 
+pub mod cut;
 pub mod memory;
 pub mod outcome;
 pub mod program;

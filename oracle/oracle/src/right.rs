@@ -1,14 +1,18 @@
-//! What is right for a file by document 01 and the Rust: the fixed words of
-//! its lines, and the lowest ranks.
+//! What is right for a file by documents 01 and 02 and the Rust: the fixed
+//! words of its lines, and the lowest ranks.
 
 use answers::{Answers, Completed, Tree};
 use files::layout::{File, TYPES, VARIABLES};
 use files::sheet::{lowest_ranks, sheet, Lines};
 
+use crate::cut::counted;
 use crate::outcome::{outcome, Outcome};
 
 pub struct Right {
+    /// With the characters cut (cut.rs).
     pub lines: Lines,
+    /// The Rust's own, whose strings have a width only.
+    pub own: Lines,
     /// None where uses run in a circle.
     pub ranks: Option<Vec<u32>>,
 }
@@ -46,8 +50,10 @@ pub fn right(words: &[u32]) -> Option<Right> {
         return None;
     };
     let file = File::open(words)?;
+    let counted = counted(words, &answers).unwrap_or_else(|message| panic!("{message}: {words:?}"));
     Some(Right {
-        lines: lines(&file, &answers),
+        lines: lines(&file, &counted),
+        own: lines(&file, &answers),
         ranks: lowest_ranks(&file),
     })
 }

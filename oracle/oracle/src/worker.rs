@@ -37,8 +37,11 @@ const ANSWER: u8 = 0;
 const PANIC: u8 = 1;
 
 /// A process that answers one file after another.
+#[derive(Default)]
 pub struct Worker {
     process: Option<Process>,
+    /// What the process is started with behind `ARGUMENT`.
+    options: Vec<String>,
 }
 
 struct Process {
@@ -48,15 +51,18 @@ struct Process {
 }
 
 impl Worker {
-    pub fn new() -> Self {
-        Worker { process: None }
+    pub fn with(options: &[&str]) -> Self {
+        Worker {
+            process: None,
+            options: options.iter().map(|option| option.to_string()).collect(),
+        }
     }
 
     /// The reply for the file `words`; `None` where the worker met a limit.
     pub fn ask(&mut self, words: &[u32]) -> io::Result<Option<Vec<u8>>> {
         let mut process = match self.process.take() {
             Some(process) => process,
-            None => Process::start()?,
+            None => Process::start(&self.options)?,
         };
         let Ok(mut reply) = process.ask(words) else {
             // Dropping the process waits for its end.
@@ -73,18 +79,13 @@ impl Worker {
     }
 }
 
-impl Default for Worker {
-    fn default() -> Self {
-        Worker::new()
-    }
-}
-
 impl Process {
-    fn start() -> io::Result<Self> {
+    fn start(options: &[String]) -> io::Result<Self> {
         // A stack that overflows is announced on standard error; here it is
         // one more way to meet a limit.
         let mut child = Command::new(std::env::current_exe()?)
             .arg(ARGUMENT)
+            .args(options)
             .stdin(Stdio::piped())
             .stdout(Stdio::piped())
             .stderr(Stdio::null())

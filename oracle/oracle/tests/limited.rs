@@ -588,6 +588,7 @@ fn the_program_prints_large() {
     draft.variable(INT_TYPE, simple(INT_TYPE, None));
     let output = run_program(
         env!("CARGO_BIN_EXE_limited"),
+        &[],
         &framed(&[draft.words(), vec![], draft.words()]),
     );
     let lines = "type 0 1\n0 1 0 0 0 0\ntype 1 large\nvar 0 large\nvar 1 1\n0 1 0 0 0 0\n\
@@ -600,7 +601,7 @@ fn the_program_prints_large() {
 
 #[test]
 fn the_program_for_the_rust_as_it_is_refuses_to_run_limited() {
-    let output = run_program(env!("CARGO_BIN_EXE_oracle"), &[]);
+    let output = run_program(env!("CARGO_BIN_EXE_oracle"), &[], &[]);
     assert_eq!(output.status.code(), Some(1));
     assert!(text(&output.stderr).starts_with("oracle: built with the feature `limited`"));
 }

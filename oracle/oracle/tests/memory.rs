@@ -8,6 +8,7 @@ use files::records::Records;
 use generate::bytes::{damaged, invented};
 use generate::random::Random;
 use generate::Size;
+use oracle::cut::counted;
 use oracle::outcome::{outcome, Outcome};
 
 /// The type of each node's place by the Rust, and of a shape's words, as text.
@@ -21,11 +22,12 @@ fn texts(file: &File) -> Texts {
     }
 }
 
-/// A file's variables with their trees.
+/// A file's variables with their trees, characters cut in the words of strings.
 fn trees(words: &[u32]) -> Vec<(u32, Vec<Node>)> {
     let Outcome::Answered(answers) = outcome(words) else {
         panic!("the Rust answers");
     };
+    let answers = counted(words, &answers).expect("the Rust answers alike");
     let all = (0..).zip(answers.variables);
     all.filter_map(|(variable, tree)| Some((variable, tree?))).collect()
 }
@@ -50,7 +52,9 @@ fn places_when_a_tree_is_walked_then_the_rusts() {
                     continue;
                 }
             };
-            let met: Vec<Option<String>> = parts.iter().map(|part| Some(shape_text(file, &part.shape))).collect();
+            let has_place = |part: &&Part| part.shape[0] != u32::MAX;
+            let text = |part: &Part| Some(part).filter(has_place).map(|part| shape_text(file, &part.shape));
+            let met: Vec<Option<String>> = parts.iter().map(text).collect();
             assert_eq!(met, *expected, "variable {variable} of {words:?}");
             parts_met += parts.len();
         }
@@ -74,14 +78,15 @@ fn named(nodes: &[u32], tree: &[Node]) -> Vec<Node> {
 }
 
 /// Whether a node that was read is that of the tree but for its qualifier, a
-/// rounded REAL, its literal's kind and width, and its characters' place.
+/// rounded REAL, its literal's kind and width, its characters' place, and those
+/// that were cut.
 fn is_same(part: &Part, read: &Node) -> bool {
-    let [_, kind, sign, low, high, _] = part.node;
+    let [_, kind, sign, low, high, last] = part.node;
     let bits = u64::from(high) << 32 | u64::from(low);
     match kind {
         2 => read[1..5] == [1, 0, low, high],
         3 if part.size() == 4 => f64::from(f64::from_bits(bits) as f32).to_bits() == u64::from(read[4]) << 32 | u64::from(read[3]),
-        8 => read[1] == 8 && read[4] == high,
+        8 => read[1] == 8 && read[4..] == [high, last % 2],
         9 => read[1..5] == [9, 0, low, 0],
         _ => read[1..5] == [kind, sign, low, high],
     }

@@ -9,7 +9,7 @@ use files::layout::*;
 
 /// What the program gives for `input`.
 fn run(input: &[u8]) -> Output {
-    run_program(env!("CARGO_BIN_EXE_oracle"), input)
+    run_program(env!("CARGO_BIN_EXE_oracle"), &[], input)
 }
 
 /// One Bool type and one plain variable.
@@ -96,6 +96,24 @@ fn circles_are_reported_at_the_end() {
         format!("file 0\ntype 0 none\nfile 1\n{SMALL}")
     );
     assert!(text(&output.stderr).ends_with("answered with none: 1\n"));
+}
+
+#[test]
+fn cut_characters_are_counted_where_asked_for() {
+    let mut draft = Draft::new();
+    let link = draft.plain([9, 4, 0, 0, 0]);
+    let abcd = draft.string("ABCD");
+    draft.variable(link, simple(link, Some(abcd)));
+    let files = framed(&[draft.words(), vec![], small(254)]);
+    let lines = |last: u32| {
+        format!(
+            "file 0\ntype 0 1\n0 8 0 0 0 0\nvar 0 1\n0 8 0 0 3 {last}\n\
+             done 0 completed 3 1\n0 8 0 0 3 {last}\nfile 1\nbad\nfile 2\n{SMALL}"
+        )
+    };
+    let counted = run_program(env!("CARGO_BIN_EXE_oracle"), &["--cut"], &files);
+    assert_eq!(text(&counted.stdout), lines(2));
+    assert_eq!(text(&run(&files).stdout), lines(0));
 }
 
 #[test]

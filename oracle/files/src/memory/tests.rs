@@ -213,6 +213,21 @@ fn strings_when_longer_or_of_the_other_width_then_14() {
 }
 
 #[test]
+fn strings_when_characters_are_cut_then_as_without() {
+    for (width, bytes) in [(0, vec![5, 0, 2, 0, 0x41, 0x42, 0, 0, 0]), (1, vec![5, 0, 2, 0, 0x41, 0, 0x42, 0, 0, 0, 0, 0, 0, 0])] {
+        let records = text(width, [0x41, 0x42, 0x43]);
+        let whole = [0, 8, 0, 0, 2, width];
+        for cut in [0, 1, 65_536] {
+            let node = [0, 8, 0, 0, 2, width + 2 * cut];
+            assert_eq!(written(&records, &[node]), Ok(bytes.clone()));
+            assert_eq!(was_read(&records, &[node], &bytes), nodes(&[whole], &[0x41, 0x42]));
+            let other = [0, 8, 0, 0, 2, 1 - width + 2 * cut];
+            assert_eq!(written(&records, &[other]), Err(14));
+        }
+    }
+}
+
+#[test]
 fn characters_when_too_wide_then_15() {
     assert_eq!(written(&text(0, [0x41, 0x42, 0x100]), &[[0, 8, 0, 0, 3, 0]]), Err(15));
     assert_eq!(written(&text(0, [0x41, 0x42, 0x100]), &[[0, 8, 0, 0, 2, 0]]).map(|bytes| bytes.len()), Ok(9));

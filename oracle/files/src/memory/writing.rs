@@ -47,7 +47,8 @@ fn constant_held(form: &Form, node: &Node) -> Result<(), Misfit> {
             range.contains(&value(node)).then_some(()).ok_or(Misfit::Bounds)
         }
         (Form::Text(most, width), STRING) => {
-            let is_held = node[4] <= u32::from(*most) && node[5] == *width;
+            // What was cut besides is disregarded (document 02, Q-2).
+            let is_held = node[4] <= u32::from(*most) && node[5] % 2 == *width;
             is_held.then_some(()).ok_or(Misfit::Text)
         }
         (Form::Nothing, _) => Err(Misfit::Nothing),

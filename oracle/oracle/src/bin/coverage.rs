@@ -50,7 +50,7 @@ impl Counts {
             files: 0,
             huge: 0,
             arms: vec![0; ARMS.len()],
-            worker: Worker::new(),
+            worker: Worker::default(),
         }
     }
 

@@ -17,6 +17,7 @@ use files::verdict::verdict;
 use generate::bytes::{damaged, invented};
 use generate::random::Random;
 use generate::Size;
+use oracle::cut::counted;
 use oracle::outcome::{outcome, Outcome};
 
 /// Behind the variables of a file.
@@ -150,10 +151,13 @@ fn is_small(file: &File, variable: u32, answers: &Answers) -> bool {
     tree.len() <= MOST_NODES && invented(&mut random, &parts).len() <= MOST_BYTES
 }
 
-/// The Rust's answers for a file that is accepted.
+/// The Rust's answers for a file that is accepted, with the characters cut.
 fn answered(words: &[u32]) -> Option<Answers> {
     match outcome(words) {
-        Outcome::Answered(answers) if verdict(words) == 0 => Some(answers),
+        Outcome::Answered(answers) if verdict(words) == 0 => {
+            let counted = counted(words, &answers);
+            Some(counted.unwrap_or_else(|message| panic!("{message}: {words:?}")))
+        }
         _ => None,
     }
 }

@@ -167,8 +167,9 @@ pub fn completed(kind: u32, tree: &[Node]) -> Option<Completed> {
 }
 
 /// What the program at `path` gives for `input`.
-pub fn run_program(path: &str, input: &[u8]) -> Output {
+pub fn run_program(path: &str, arguments: &[&str], input: &[u8]) -> Output {
     let mut child = Command::new(path)
+        .args(arguments)
         .stdin(Stdio::piped())
         .stdout(Stdio::piped())
         .stderr(Stdio::piped())
