@@ -104,8 +104,10 @@ pub classed : (f rest : List ℕ) {classes : List ℕ} → classes ≡ classesOf
 classed f rest e = subst (Classes f) (sym e) (classes-at f rest)
 
 module _ {f : List ℕ} (a : Accepted f) {v : ℕ} (l : v < count f variables) where
-  pub placed : (i : ℕ) {r : Found} → placeIn r ≡ variablePlace f v i → {place : Place} → r ≡ found.Place place → PlaceIn f place
-  placed i q e = variable-found f a v i (variable-points f a v l .0) q e
+  pub placed : {i : ℕ} → i ≡ word f variables v 3 → {r : Found} → placeIn r ≡ variablePlace f v i → {place : Place} → r ≡ found.Place place → PlaceIn f place
+  placed {i} p q e =
+      let w = variable-points f a v l in
+      variable-found f a v i (w .0) (omega (arith, w .1)) q e
 
 pub shapes-fit : {f : List ℕ} → Accepted f → {n : ℕ} → 1024 ≤ n → count f shapes ≤ n
 shapes-fit {f} a h = omega (arith, few-shapes f a)

@@ -14,9 +14,8 @@ use denote.Enum.Declared.{tagOf}
 use Rattle.definition.specs.declared.records.Shape.{Shape}
 use Rattle.definition.specs.declared.records.Constant.{Constant}
 use Rattle.definition.specs.Base.{pick}
-use Rattle.definition.specs.Layout.{count, shapes, members}
+use Rattle.definition.specs.Layout.{members}
 use Rattle.definition.specs.Records.{constantOf}
-use Rattle.definition.specs.Accept.{constantPlain}
 use Rattle.definition.specs.Places.{firstNamed}
 use Rattle.definition.specs.Scalar.{sizeOf, valueOf}
 use Rattle.laws.specs.Cases.{never, both}
@@ -27,10 +26,10 @@ use Rattle.memory_definition.specs.declared.form.Form.{Form}
 use Rattle.memory_definition.specs.declared.form.Form.the-variants as form
 use Rattle.memory_definition.specs.Cells.{Cell}
 use Rattle.memory_definition.specs.Numbers.{littleEndian, complement, narrowed, characterBytes, stringBytes}
-use Rattle.memory_definition.specs.Forms.{formAt, formOf, constantOn, fitsUpTo, heldConstant, memberLink, heldAs, held, fileCharacters, charactersFrom, textOn, everyBelow, narrowAs, narrow, sizeAs, bytesAs, bytes}
+use Rattle.memory_definition.specs.Forms.{formAt, formOf, constantOn, heldConstant, memberLink, heldAs, held, fileCharacters, charactersFrom, textOn, everyBelow, narrowAs, narrow, sizeAs, bytesAs, bytes}
 use Rattle.memory_definition.specs.Memory.{size}
 use Rattle.memory_laws.specs.Bytes.{Signed, plain-sign, Sided, plain, negative, natural, sided}
-use Rattle.memory_laws.specs.Fits.{Fitting, fitting}
+use Rattle.memory_laws.specs.Fits.{plain-held, Fitting, fitting}
 use Rattle.memory_forms.specs.Cell.{nodeOf, cellOf}
 use Rattle.memory_bytes.specs.Flipped.{flipped, flipped-is, Within}
 
@@ -55,11 +54,10 @@ module _ {bits : ℕ} {c : Constant} (w : Within bits c) {z : ℕ} (is : z ≡ s
 
 -- ---- what is held
 held-plain : (f : List ℕ) (c : Cell) → heldConstant f c ≡ true → Signed (constantOn (c .node) .sign) (sizeOf (constantOn (c .node)))
-unfolding heldConstant constantOn constantOf sizeOf
+unfolding sizeOf
 held-plain f c h =
-    let n = c .node in
-    plain-sign (n .kind) (n .sign) (n .low) (n .high) (n .width)
-    (both (constantPlain (n .kind) (n .sign) (n .low) (n .high) (n .width)) (fitsUpTo f (suc (count f shapes)) (c .shape) (constantOf (n .kind) (n .sign) (n .low) (n .high) (n .width))) h .0)
+    let d : Constant = constantOn (c .node) in
+    plain-sign (d .kind) (d .sign) (d .low) (d .high) (d .width) (plain-held f c h)
 
 sided-within : (signed : Bool) (bits : ℕ) (c : Constant) → Sided signed bits (c .sign) (sizeOf c) → Within bits c
 sided-within signed bits c (plain z s l) = record { some = λ e. absurd (omega arith); most = λ e. absurd (omega arith) }

@@ -12,7 +12,7 @@ use Rattle.definition.specs.Tree.{Node, Tree, node, tnil, tcons, structureTree}
 use Rattle.definition.specs.Places.{bare}
 use Rattle.definition.specs.Answers.{Says, refuses, says}
 use Rattle.definition.specs.Computing.{computing}
-use Rattle.definition.specs.ExampleFiles.{sections, plain, array-of, variable, naming, int, integer, bool}
+use Rattle.definition.specs.ExampleFiles.{sections, plain, array-of, type, variable, naming, int, integer, bool}
 use Rattle.definition.specs.ExampleFiles as files
 use Rattle.memory_definition.specs.Cells as Cells
 use Rattle.memory_definition.specs.Cells.{Cell, cell, cells}
@@ -120,6 +120,19 @@ rows =
     row (written (shape.String 3 0) (named 8 0 0 3 0)) (14 ∷ []) ∷
     row (written (shape.String 6 0) (named 8 0 0 3 1)) (14 ∷ []) ∷
     row (written (shape.String 65537 0) (named 8 0 0 0 0)) (14 ∷ []) ∷
+    -- characters cut have no bytes, and only the width in the last word is compared with the shape's (document 02, Q-2: "14 disregards it"): 1; 1 and 2 of a wide string; all;
+    -- the most that a word counts; another width
+    row (written (shape.String 4 0) (named 8 0 0 3 2)) (0 ∷ 3 ∷ 0 ∷ 3 ∷ 0 ∷ 65 ∷ 66 ∷ 67 ∷ []) ∷
+    row (written (shape.String 2 1) (named 8 0 1 1 3)) (0 ∷ 1 ∷ 0 ∷ 1 ∷ 0 ∷ 66 ∷ 0 ∷ []) ∷
+    row (written (shape.String 2 1) (named 8 0 1 1 5)) (0 ∷ 1 ∷ 0 ∷ 1 ∷ 0 ∷ 66 ∷ 0 ∷ []) ∷
+    row (written (shape.String 1 0) (named 8 0 0 0 6)) (0 ∷ 0 ∷ 0 ∷ 0 ∷ 0 ∷ []) ∷
+    row (written (shape.String 4 0) (named 8 0 0 3 4294967294)) (0 ∷ 3 ∷ 0 ∷ 3 ∷ 0 ∷ 65 ∷ 66 ∷ 67 ∷ []) ∷
+    row (written (shape.String 4 0) (named 8 0 0 3 3)) (14 ∷ []) ∷
+    row (written (shape.String 2 1) (named 8 0 1 1 2)) (14 ∷ []) ∷
+    row (written (shape.String 2 1) (named 8 0 1 1 4)) (14 ∷ []) ∷
+    -- only strings count characters in that word
+    row (written (shape.Int 16) (named 1 0 1 0 2)) (14 ∷ []) ∷
+    row (written (shape.Time 64) (named 4 0 1 0 3)) (14 ∷ []) ∷
     -- characters 255 and 256, 65,535 and 65,536
     row (written (shape.String 2 0) (named 8 0 3 1 0)) (0 ∷ 1 ∷ 0 ∷ 1 ∷ 0 ∷ 255 ∷ []) ∷
     row (written (shape.String 2 0) (named 8 0 4 1 0)) (15 ∷ []) ∷
@@ -172,6 +185,10 @@ rows =
     row (read (shape.String 6 0) any (4 ∷ 0 ∷ 3 ∷ 0 ∷ 65 ∷ 66 ∷ 67 ∷ 0 ∷ 0 ∷ [])) (14 ∷ []) ∷
     row (read (shape.String 6 0) any (5 ∷ 0 ∷ 6 ∷ 0 ∷ 65 ∷ 66 ∷ 67 ∷ 65 ∷ 66 ∷ [])) (14 ∷ []) ∷
     row (read (shape.String 3 1) any (2 ∷ 0 ∷ 1 ∷ 0 ∷ 0 ∷ 1 ∷ 0 ∷ 0 ∷ [])) (0 ∷ 0 ∷ 8 ∷ 0 ∷ 10 ∷ 1 ∷ 1 ∷ 256 ∷ []) ∷
+    -- a tree read from bytes has none cut (document 02, Q-2), whatever the tree asked for has
+    row (read (shape.String 4 0) (named 8 0 0 3 2) (3 ∷ 0 ∷ 3 ∷ 0 ∷ 65 ∷ 66 ∷ 67 ∷ [])) (0 ∷ 0 ∷ 8 ∷ 0 ∷ 10 ∷ 3 ∷ 0 ∷ 65 ∷ 66 ∷ 67 ∷ []) ∷
+    row (read (shape.String 2 1) (named 8 0 1 1 5) (1 ∷ 0 ∷ 1 ∷ 0 ∷ 66 ∷ 0 ∷ [])) (0 ∷ 0 ∷ 8 ∷ 0 ∷ 10 ∷ 1 ∷ 1 ∷ 66 ∷ []) ∷
+    row (read (shape.String 1 0) (named 8 0 0 0 6) (replicate 4 0)) (0 ∷ 0 ∷ 8 ∷ 0 ∷ 0 ∷ 0 ∷ 0 ∷ []) ∷
     row (read (shape.Enumeration 0 3 0 0) (named 9 0 8 5 0) (0 ∷ 0 ∷ [])) (0 ∷ 0 ∷ 9 ∷ 0 ∷ 7 ∷ 0 ∷ 0 ∷ []) ∷
     row (read (shape.Enumeration 0 3 0 0) (named 9 0 8 0 0) (2 ∷ 0 ∷ [])) (14 ∷ []) ∷
     row (read (shape.Enumeration 0 3 0 0) (named 9 0 8 0 0) (3 ∷ 0 ∷ [])) (14 ∷ []) ∷
@@ -225,6 +242,15 @@ valueless = array-of 1 (variable 0 ∷ []) (naming 12 0 ∷ [])
 large : List ℕ
 large = array-of 2048 (variable 2 ∷ []) (naming 3 2 ∷ [])
 
+-- a variable STRING[3] := 'ABCD', whose last character is cut
+caption : List ℕ
+caption =
+    files.file 254 (bool ∷ []) [] (type 0 0 ∷ []) (variable 1 ∷ []) ((4 ∷ 1 ∷ 0 ∷ 1 ∷ 0 ∷ 0 ∷ 4 ∷ 0 ∷ []) ∷ []) [] [] ((8 ∷ 0 ∷ 0 ∷ 4 ∷ 0 ∷ []) ∷ [])
+    ((65 ∷ []) ∷ (66 ∷ []) ∷ (67 ∷ []) ∷ (68 ∷ []) ∷ [])
+
+caption-bytes : List ℕ
+caption-bytes = 3 ∷ 0 ∷ 3 ∷ 0 ∷ 65 ∷ 66 ∷ 67 ∷ []
+
 answers : List (Row Says)
 answers =
     row (writeMemoryAnswer plain 0 1 12291 49152) (says 0 (1 ∷ [])) ∷
@@ -235,6 +261,7 @@ answers =
     row (writeMemoryAnswer three 0 5 24582 73728) (refuses 10) ∷
     row (writeMemoryAnswer valueless 0 0 24582 73728) (says 1 []) ∷
     row (writeMemoryAnswer large 0 0 24582 73728) (refuses 8) ∷
+    row (writeMemoryAnswer caption 0 7 12291 49152) (says 0 (7 ∷ [])) ∷
     row (readMemoryAnswer plain 0 (1 ∷ []) 6 0 12291 49152) (says 0 (1 ∷ [])) ∷
     row (readMemoryAnswer plain 0 (2 ∷ []) 0 0 12291 49152) (refuses 14) ∷
     row (readMemoryAnswer plain 0 [] 6 0 12291 49152) (refuses 14) ∷
@@ -243,6 +270,7 @@ answers =
     row (readMemoryAnswer three 0 (replicate 6 255) 24 0 24582 73728) (says 0 (4 ∷ [])) ∷
     row (readMemoryAnswer valueless 0 [] 0 0 24582 73728) (says 1 []) ∷
     row (readMemoryAnswer large 0 [] 0 0 24582 73728) (refuses 8) ∷
+    row (readMemoryAnswer caption 0 caption-bytes 6 3 12291 49152) (says 0 (1 ∷ [])) ∷
     []
 
 -- what is left in the lent bytes and words: what lies behind an answer stays, and a refusal leaves all
@@ -254,6 +282,9 @@ outs =
     row (readMemoryNodes plain 0 (1 ∷ []) (replicate 8 9) 0 12291 49152) (0 ∷ 0 ∷ 0 ∷ 1 ∷ 0 ∷ 0 ∷ 9 ∷ 9 ∷ []) ∷
     row (readMemoryNodes plain 0 (2 ∷ []) (replicate 8 9) 0 12291 49152) (replicate 8 9) ∷
     row (readMemoryText plain 0 (1 ∷ []) 6 (9 ∷ []) 12291 49152) (9 ∷ []) ∷
+    row (writeMemoryOut caption 0 (replicate 7 9) 12291 49152) caption-bytes ∷
+    row (readMemoryNodes caption 0 caption-bytes (replicate 6 9) 3 12291 49152) (0 ∷ 8 ∷ 0 ∷ 0 ∷ 3 ∷ 0 ∷ []) ∷
+    row (readMemoryText caption 0 caption-bytes 6 (replicate 3 9) 12291 49152) (65 ∷ 66 ∷ 67 ∷ []) ∷
     []
 
 all-computed : {A : Type 0} → List (Row A) → List A
@@ -263,5 +294,5 @@ all-is : {A : Type 0} → List (Row A) → List A
 all-is rs = map (λ r. r .is) rs
 
 examples : (all-computed rows ≡ all-is rows) × (all-computed trees ≡ all-is trees) × (all-computed answers ≡ all-is answers) × (all-computed outs ≡ all-is outs)
-unfolding remembering row file named written read whole any null real rows fields part both wide left trees three valueless large answers outs all-computed all-is
+unfolding remembering row file named written read whole any null real rows fields part both wide left trees three valueless large caption caption-bytes answers outs all-computed all-is
 examples = (refl, refl, refl, refl)

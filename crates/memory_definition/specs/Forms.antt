@@ -14,7 +14,7 @@ use Rattle.definition.specs.Records.{constantOf, shapeAt}
 use Rattle.definition.specs.Accept.{constantPlain}
 use Rattle.definition.specs.Tree.{Node}
 use Rattle.definition.specs.Ask.{Result, ok, none, large}
-use Rattle.definition.specs.Scalar.{sizeOf, maxLength, converted, long}
+use Rattle.definition.specs.Scalar.{sizeOf, maxLength, uncutWord, converted, long}
 use Rattle.definition.specs.Shapes.{onShape}
 use Rattle.definition.specs.Places.{firstNamed}
 use Rattle.memory_definition.specs.declared.form.Form.{Form}
@@ -80,8 +80,9 @@ unfoldable pub formOf : List ℕ → Cell → Form
 formOf f c = formAt f (c .shape) (c .node .kind)
 
 -- ---- which nodes a shape holds (all others are refusal 14)
+-- the constant that a node holds, without the characters cut (document 02, Q-2: "14 disregards it")
 unfoldable pub constantOn : Node → Constant
-constantOn h = constantOf (h .kind) (h .sign) (h .low) (h .high) (h .width)
+constantOn h = constantOf (h .kind) (h .sign) (h .low) (h .high) (uncutWord (h .kind) (h .width))
 
 unfoldable pub sameConstant : Constant → Constant → Bool
 sameConstant c d = eqb (c .kind) (d .kind) && eqb (c .sign) (d .sign) && eqb (c .low) (d .low) && eqb (c .high) (d .high) && eqb (c .width) (d .width)
@@ -123,8 +124,8 @@ fitsUpTo f (suc k) s c = unchanged f s c && onBase s (λ base. fitsUpTo f k (sha
 -- a constant that a file may hold (refusal 3), so no expression and no reference, and that fits
 unfoldable pub heldConstant : List ℕ → Cell → Bool
 heldConstant f c =
-    let h : Node = c .node in
-    constantPlain (h .kind) (h .sign) (h .low) (h .high) (h .width) && fitsUpTo f (suc (count f shapes)) (c .shape) (constantOn h)
+    let d : Constant = constantOn (c .node) in
+    constantPlain (d .kind) (d .sign) (d .low) (d .high) (d .width) && fitsUpTo f (suc (count f shapes)) (c .shape) d
 
 -- an array has as many entries as its shape has places, a structure as many parts as its shape has fields; where each part stands is `partPlace`
 unfoldable pub heldHead : List ℕ → Cell → Bool
@@ -225,7 +226,7 @@ nodeOf c = record { name = 0; kind = c .kind; sign = c .sign; low = c .low; high
 unfoldable pub realRead : ℕ → Node
 realRead n = nodeOf (constantOf 3 0 (n % 2 ^ 32) (n / 2 ^ 32) 0)
 
--- the characters of a string stand behind so many of those read before; without characters it begins at 0
+-- the characters of a string stand behind so many of those read before; without characters it begins at 0. None is cut (document 02, Q-2).
 unfoldable pub stringRead : ℕ → ℕ → ℕ → Node
 stringRead at many width = nodeOf (constantOf 8 0 (pick (eqb many 0) 0 at) many width)
 

@@ -1,10 +1,10 @@
 -- A law for each return of members.rt and held.rt. Assumes nothing.
-use mathlib.Core.Path.{_≡_, refl, sym, _∙_}
+use mathlib.Core.Path.{_≡_, refl, ap, sym, _∙_}
 use mathlib.Core.Bool.{Bool, true, false, not, _&&_}
 use mathlib.Core.List.{List, [], _∷_}
-use Prim.Native.Nat.{ℕ, suc, _+_, _-_, _^_, _≤_, _<_, min}
+use Prim.Native.Nat.{ℕ, suc, _+_, _-_, _*_, _%_, _^_, _≤_, _<_, min}
 use native.Mathlib.Omega.{arith}
-use native.Mathlib.Nat.{add-zero}
+use native.Mathlib.Nat.{add-zero, min-eq-left, min-le-right}
 use native.Mathlib.Numerals.{add-one}
 use lib.Dec.{eqb, ltb}
 use lib.Ieee.{binary64, nanBits}
@@ -17,21 +17,27 @@ use Rattle.definition.specs.declared.records.Shape.{Shape}
 use Rattle.definition.specs.declared.records.Shape.the-variants as shape
 use Rattle.definition.specs.declared.records.Constant.{Constant}
 use Rattle.definition.specs.Base.{pick}
-use Rattle.definition.specs.Layout.{word, count, shapes, members}
+use Rattle.definition.specs.Layout.{word, count, settings, shapes, members}
 use Rattle.definition.specs.Records.{constantOf, shapeAt}
 use Rattle.definition.specs.Accept.{constantPlain}
+use Rattle.definition.specs.Ask.{Result, ok, none}
 use Rattle.definition.specs.Places.{firstNamed}
-use Rattle.definition.specs.Scalar.{sizeOf, converted}
+use Rattle.definition.specs.Scalar.{sizeOf, maxLength, onResult, cutString, uncutWord, asString, converted}
 use Rattle.scalar.specs.declared.node.Leaf.{Leaf}
 use Rattle.scalar.specs.declared.node.Leaf.the-variants as leaf
 use Rattle.scalar.specs.Node.{resultOf}
+use Rattle.scalar.specs.declared.string.MaxLength.{MaxLength}
+use Rattle.scalar.specs.declared.string.MaxLength.the-variants as most
+use Rattle.scalar.specs.String.{lengthOf, maxLengthBy, stringOf, max-length-is}
+use Rattle.scalar.specs.Convert.{Counts}
 use Rattle.tree.specs.declared.node.Node.{Node}
 use Rattle.places.proofs.Steps.{Comes, goes-on, stops, ends}
 use Rattle.memory_definition.proofs.form.Form as formTypes
 use Rattle.memory_definition.specs.declared.form.Form.{Form}
 use Rattle.memory_definition.specs.declared.form.Form.the-variants as form
 use Rattle.memory_definition.specs.Cells.{entriesUpTo, entriesOf}
-use Rattle.memory_definition.specs.Forms.{formAt, formOf, constantOn, sameConstant, unchanged, onBase, fitsUpTo, heldConstant, heldHead, memberLink, heldAs, held}
+use Rattle.memory_definition.specs.Forms.{formAt, formOf, constantOn, sameConstant, isSame, unchanged, onBase, fitsUpTo, heldConstant, heldHead, memberLink, heldAs, held}
+use Rattle.memory_laws.specs.Fits.{cutTo}
 use Rattle.memory_forms.specs.Cell.{nodeOf, cellOf}
 use Rattle.memory_forms.proofs.Forming.{unranged}
 
@@ -63,10 +69,82 @@ module _ (f : List ℕ) (name first many : ℕ) where
           let q : first + suc place ≡ suc (first + place) = omega arith in
           record { inside = omega arith; same = rw (← x .same, left, ← is, ne-eqb w name n, add-one place, q) }
 
--- ---- `constant_on`, `same`, `unchanged`
-pub constant-made : (n : Node) → record { kind = n .kind; sign = n .sign; low = n .low; high = n .high; width = n .width } ≡ constantOn (nodeOf n)
+-- ---- `uncut_word`, `constant_on`
+module _ {kind : ℕ} (last : ℕ) where
+  pub string-word : kind ≡ 8 → last % 2 ≡ uncutWord kind last
+  unfolding uncutWord
+  string-word e = rw (eq-eqb kind 8 e)
+
+  pub other-word : (kind ≡ 8 → ⊥) → last ≡ uncutWord kind last
+  unfolding uncutWord
+  other-word n = rw (ne-eqb kind 8 n)
+
+pub constant-made : (n : Node) {w : ℕ} → w ≡ uncutWord (n .kind) (n .width) → record { kind = n .kind; sign = n .sign; low = n .low; high = n .high; width = w } ≡ constantOn (nodeOf n)
 unfolding constantOn constantOf
-constant-made n = refl
+constant-made n e = rw e
+
+-- ---- `unchanged_string`: with no character cut the last word is the width
+cut-shorter : (width : ℕ) (c : Constant) (most : ℕ) → most < c .high → sameConstant c (cutTo width c most) ≡ false
+unfolding sameConstant constantOf
+cut-shorter width c most h =
+    let e : eqb (c .high) (min (c .high) most) ≡ false = ne-eqb (c .high) (min (c .high) most) (λ q. omega (arith, min-le-right (c .high) most)) in
+    rw e (go (eqb (c .kind) 8 && eqb (c .sign) 0 && eqb (c .low) (pick (eqb (min (c .high) most) 0) 0 (c .low))))
+  where
+    go : (x : Bool) → x && false && eqb (c .width) (width + 2 * (c .high - min (c .high) most)) ≡ false
+    go true = refl
+    go false = refl
+
+cut-whole : (width : ℕ) (c : Constant) (most : ℕ) → c .high ≤ most → cutTo width c most ≡ stringOf (c .low) (c .high) width
+unfolding stringOf
+cut-whole width c most h =
+    let m : min (c .high) most ≡ c .high = min-eq-left h in
+    let w : width + 2 * (c .high - c .high) ≡ width = omega arith in
+    rw (m, w)
+
+no-string : (width : ℕ) (c : Constant) → eqb (c .kind) 8 ≡ false → sameConstant c (stringOf (c .low) (c .high) width) ≡ false
+unfolding sameConstant stringOf constantOf
+no-string width c k = rw k
+
+module _ (f : List ℕ) (length width : ℕ) (c : Constant) {setting : ℕ} (is : setting ≡ word f settings 0 0) where
+  by-length : {r : Result ℕ} → r ≡ maxLengthBy setting length
+      → unchanged f (shape.String length width) c ≡ isSame c (pick (eqb (c .kind) 8) (onResult r (λ most. ok (cutTo width c most))) none)
+  unfolding unchanged converted asString cutString
+  by-length {r} h = let e : maxLength f length ≡ r = sym (max-length-is f length) ∙ rw (← is) (sym h) in rw e
+
+  module _ {m : MaxLength} (h : lengthOf m ≡ maxLengthBy setting length) where
+    pub no-length : m ≡ most.None → false ≡ unchanged f (shape.String length width) c
+    no-length e = sym (by-length {r = none} (rw e at h) ∙ go (eqb (c .kind) 8))
+      where
+        go : (b : Bool) → isSame c (pick b none none) ≡ false
+        go true = refl
+        go false = refl
+
+    module _ {n : ℕ} (e : m ≡ most.Most n) where
+      pub too-long : n < c .high → false ≡ unchanged f (shape.String length width) c
+      too-long l = sym (by-length {r = ok n} (rw e at h) ∙ go (eqb (c .kind) 8))
+        where
+          go : (b : Bool) → isSame c (pick b (ok (cutTo width c n)) none) ≡ false
+          go true = cut-shorter width c n l
+          go false = refl
+
+      pub whole-string : c .high ≤ n → {d : Constant} → d ≡ stringOf (c .low) (c .high) width → {b : Bool} → b ≡ sameConstant c d → b ≡ unchanged f (shape.String length width) c
+      whole-string l {d} q {b} s = sym (by-length {r = ok n} (rw e at h) ∙ ap (λ x. isSame c (pick (eqb (c .kind) 8) (ok x) none)) (cut-whole width c n l ∙ sym q) ∙ go (eqb (c .kind) 8) refl)
+        where
+          go : (k : Bool) → eqb (c .kind) 8 ≡ k → isSame c (pick k (ok d) none) ≡ b
+          go true k = sym s
+          go false k = sym (s ∙ rw q (no-string width c k))
+
+-- ---- `unchanged`
+pub as-string : (f : List ℕ) {s : Shape} (c : Constant) {length width : ℕ} → s ≡ shape.String length width → {b : Bool} → b ≡ unchanged f (shape.String length width) c → b ≡ unchanged f s c
+as-string f c e h = rw e h
+
+-- every shape but the string
+abbrev stringless : List ℕ
+stringless = 0 ∷ 1 ∷ 2 ∷ 3 ∷ 4 ∷ 5 ∷ 6 ∷ 7 ∷ 8 ∷ 10 ∷ 11 ∷ 12 ∷ 13 ∷ 14 ∷ 15 ∷ 16 ∷ 17 ∷ []
+
+-- nothing is cut there
+pub nothing-counted : (s : Shape) (c : Constant) → OneOf stringless (tagOf shapeTypes.the-type s) → Counts s c
+nothing-counted s c h = record { of-string = λ length width e k. absurd (miss stringless 9 tt (rw e at h)) }
 
 module _ (f : List ℕ) (s : Shape) (c : Constant) {l : Leaf} (is : resultOf l ≡ converted f s c) where
   pub same-value : {d : Constant} → l ≡ leaf.Value d → {b : Bool} → b ≡ sameConstant c d → b ≡ unchanged f s c
@@ -122,14 +200,14 @@ module _ (f : List ℕ) (s : Shape) (c : Constant) where
 
 -- ---- `held_constant`, `held_real`
 module _ (f : List ℕ) (s : Shape) (n : Node) where
-  module _ {p : Bool} (is : p ≡ constantPlain (n .kind) (n .sign) (n .low) (n .high) (n .width)) where
+  module _ {c : Constant} (on : c ≡ constantOn (nodeOf n)) {p : Bool} (is : p ≡ constantPlain (c .kind) (c .sign) (c .low) (c .high) (c .width)) where
     pub not-plain : p ≡ false → false ≡ heldConstant f (cellOf s n)
     unfolding heldConstant
-    not-plain e = rw (← is, e)
+    not-plain e = rw (← on, ← is, e)
 
-    pub plain-fits : p ≡ true → {m : ℕ} → m ≡ count f shapes → {c : Constant} → c ≡ constantOn (nodeOf n) → {b : Bool} → b ≡ fitsUpTo f (m + 1) s c → b ≡ heldConstant f (cellOf s n)
+    pub plain-fits : p ≡ true → {m : ℕ} → m ≡ count f shapes → {b : Bool} → b ≡ fitsUpTo f (m + 1) s c → b ≡ heldConstant f (cellOf s n)
     unfolding heldConstant
-    plain-fits e {m} q g h = rw (← is, e, ← q, ← g, ← add-one m) h
+    plain-fits e {m} q h = rw (← on, ← is, e, ← q, ← add-one m) h
 
   module _ {c : Constant} (is : c ≡ constantOn (nodeOf n)) {z : ℕ} (e : z ≡ sizeOf c) {t : Bool} (h : t ≡ nanBits binary64 z) where
     real : (b : Bool) → heldAs f form.Real (cellOf s n) ≡ heldConstant f (cellOf s n) && not t
@@ -265,4 +343,4 @@ module _ (f : List ℕ) (s : Shape) (n : Node) {x : Form} (is : x ≡ formAt f s
 
 pub ruleset naming = (needs, none-passed, none-named, named-here, one-passed)
 
-pub ruleset holding = (needs, not-true, not-false, goes-on, stops, ends, constant-made, same-value, no-value, fits-starts, fits-ends, changed, fits-whole, fits-base, not-plain, plain-fits, no-real, a-real, no-array, an-array, no-head, structure-head, array-head, block-head, no-member, a-member, held-null, held-nothing, held-as-head, held-as-real, held-as-member, held-as-constant)
+pub ruleset holding = (needs, not-true, not-false, goes-on, stops, ends, string-word, other-word, constant-made, no-length, too-long, whole-string, as-string, nothing-counted, same-value, no-value, fits-starts, fits-ends, changed, fits-whole, fits-base, not-plain, plain-fits, no-real, a-real, no-array, an-array, no-head, structure-head, array-head, block-head, no-member, a-member, held-null, held-nothing, held-as-head, held-as-real, held-as-member, held-as-constant)

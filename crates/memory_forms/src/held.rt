@@ -2,8 +2,10 @@
 ghost use mathlib.Core.Path.{_≡_};
 ghost use mathlib.Core.Bool.{not, _&&_};
 ghost use lib.Dec.{eqb};
+ghost use Rattle.definition.specs.declared.records.Shape.the-variants as shape;
 ghost use Rattle.definition.specs.Layout.{members};
 ghost use Rattle.definition.specs.Places.{firstNamed};
+ghost use Rattle.definition.specs.Scalar.{uncutWord};
 ghost use Rattle.records.specs.Starts.{StartsOf};
 ghost use Rattle.memory_definition.specs.declared.form.Form.the-variants as form;
 ghost use Rattle.memory_definition.specs.Cells as Cells;
@@ -13,6 +15,7 @@ ghost use Rattle.memory_forms.specs.Cell.{nodeOf, cellOf};
 use crate::entries::entries_up_to;
 use crate::form::form_of;
 use crate::members::member_place;
+use definition::layout::SETTINGS;
 use definition::layout::SHAPES;
 use definition::records::Constant;
 use definition::records::Shape;
@@ -22,9 +25,23 @@ use plain::words::constant_plain;
 use reals::is_nan;
 use records::view::shape_at;
 use records::words::count;
+use records::words::word;
 use scalar::node::Leaf;
 use scalar::range::size;
+use scalar::string::MaxLength;
+use scalar::string::max_length;
+use scalar::string::string_constant;
 use tree::node::Node;
+
+// A node's last word by its kind: of a string's only the width, without the characters cut.
+fn uncut_word(kind: u32, last: u32) -> u32
+    ensures { λ r. ⌜ r ≡ uncutWord kind last ⌝ }
+{
+    if kind == 8 {
+        return last % 2;
+    }
+    last
+}
 
 // The constant that a node without parts holds.
 pub fn constant_on(node: Node) -> Constant
@@ -35,7 +52,7 @@ pub fn constant_on(node: Node) -> Constant
         sign: node.sign,
         low: node.low,
         high: node.high,
-        width: node.width,
+        width: uncut_word(node.kind, node.width),
     }
 }
 
@@ -49,15 +66,33 @@ fn same(c: Constant, d: Constant) -> bool
         & (c.width == d.width)
 }
 
+// A string whose place holds all its characters and has its width. `converted` counts the characters cut in a word, which a node's may not fit.
+fn unchanged_string(file: &[u32], source: &[usize], length: u32, width: u32, c: Constant) -> bool
+    requires { ⌜ StartsOf (now file) (now source) ⌝ }
+    ensures { λ r. ⌜ r ≡ Forms.unchanged (now (file .entry)) (shape.String length width) c ⌝ }
+{
+    let setting = word(file, source, SETTINGS, 0, 0);
+    let MaxLength::Most(most) = max_length(length, setting) else {
+        return false;
+    };
+    if most < c.high {
+        return false;
+    }
+    same(c, string_constant(c.low, c.high, width))
+}
+
 // Conversion to the shape returns it unchanged.
 fn unchanged(file: &[u32], source: &[usize], shape: Shape, c: Constant) -> bool
     requires { ⌜ StartsOf (now file) (now source) ⌝ }
     ensures { λ r. ⌜ r ≡ Forms.unchanged (now (file .entry)) shape c ⌝ }
 {
-    let Leaf::Value(d) = converted(file, source, shape, c) else {
-        return false;
-    };
-    same(c, d)
+    match shape {
+        Shape::String { length, width } => unchanged_string(file, source, length, width, c),
+        _ => match converted(file, source, shape, c) {
+            Leaf::Value(d) => same(c, d),
+            _ => false,
+        },
+    }
 }
 
 // It fits the shape, and if that is a subrange, its base.
@@ -89,11 +124,12 @@ fn held_constant(file: &[u32], source: &[usize], shape: Shape, node: Node) -> bo
     requires { ⌜ StartsOf (now file) (now source) ⌝ }
     ensures { λ r. ⌜ r ≡ heldConstant (now (file .entry)) (cellOf shape node) ⌝ }
 {
-    if !constant_plain(node.kind, node.sign, node.low, node.high, node.width) {
+    let c = constant_on(node);
+    if !constant_plain(c.kind, c.sign, c.low, c.high, c.width) {
         return false;
     }
     let most = count(file, source, SHAPES) as usize + 1;
-    fits_up_to(file, source, most, shape, constant_on(node))
+    fits_up_to(file, source, most, shape, c)
 }
 
 fn held_real(file: &[u32], source: &[usize], shape: Shape, node: Node) -> bool

@@ -1,10 +1,12 @@
--- Bytes that are read are the bytes of what is read, and bytes that are refused (14) are those of no tree of these parts. Assumes nothing.
+-- Bytes that are read are the bytes of what is read, which has no characters cut, and bytes that are refused (14) are those of no tree of these parts. Assumes nothing.
 use mathlib.Core.Path.{_≡_, refl, ap, sym, _∙_}
 use mathlib.Core.Bool.{Bool, true, false, _&&_}
-use mathlib.Core.List.{List, [], _∷_, _++_, append-assoc}
-use Prim.Native.Nat.{ℕ, suc, _+_, _^_}
-use lib.Dec.{eqb}
+use mathlib.Core.List.{List, [], _∷_, _++_, map, append-assoc}
+use Prim.Native.Nat.{ℕ, suc, _+_, _^_, _≤_}
+use native.Mathlib.Omega.{arith}
+use lib.Dec.{eqb, leb}
 use lib.ListN.{length, take, drop, length-append, take-append-drop}
+use borrow.Author.Tests.{leb-true}
 use Rattle.definition.specs.declared.records.Constant.{Constant}
 use Rattle.definition.specs.Base.{pick}
 use Rattle.definition.specs.Layout.{count, shapes}
@@ -13,15 +15,16 @@ use Rattle.laws.specs.Cases.{never, both}
 use Rattle.memory_definition.specs.declared.form.Form.{Form}
 use Rattle.memory_definition.specs.declared.form.Form.the-variants as form
 use Rattle.memory_definition.specs.Cells.{Cell, cell}
-use Rattle.memory_definition.specs.Numbers.{characterBytes, stringBytes, textFrom, lengthFrom, stringFrom}
-use Rattle.memory_definition.specs.Forms.{Characters, formOf, constantOn, fitsUpTo, heldConstant, heldAs, held, charactersFrom, textOn, everyBelow, narrowAs, narrow, bytesAs, bytes, nodeOf, stringRead, nodeAs, nodeRead, textAs, textRead, sameBytes, listed, readable}
+use Rattle.memory_definition.specs.Numbers.{literal, literalRead, characterBytes, stringBytes, textFrom, lengthFrom, stringFrom}
+use Rattle.memory_definition.specs.Forms.{Characters, formOf, constantOn, fitsUpTo, heldConstant, heldAs, held, charactersFrom, textOn, everyBelow, narrowAs, narrow, bytesAs, bytes, nodeOf, realRead, stringRead, nodeAs, nodeRead, textAs, textRead, sameBytes, listed, readable}
 use Rattle.memory_definition.specs.Memory.{heldAll, narrowAll, bytesAll, size, readableAll, textAll, nodeWordsOf, nodesAll}
 use Rattle.memory_laws.specs.Bytes.{Bytes, bytes-take, bytes-drop, same-bytes, text-many, text-below}
 use Rattle.memory_laws.specs.Strings.{listed-string, listed-own}
-use Rattle.memory_laws.specs.Fits.{plain-held, held-by, Fitting, fitting, Again, again-form}
+use Rattle.memory_laws.specs.Uncut.{uncutCell, none-cut}
+use Rattle.memory_laws.specs.Fits.{held-by, held-width, Fitting, fitting, Again, again-form, Literals, literal-form, literal-width}
 use Rattle.memory_laws.specs.Lengths.{AlikeAll, all-done, all-next}
 use Rattle.memory_laws.specs.Same.{SizedAll}
-use Rattle.memory_laws.specs.ReadForms.{string-plain, string-width}
+use Rattle.memory_laws.specs.ReadForms.{string-plain}
 use Rattle.memory_laws.specs.ReadBack.{kind-read, form-again, written-read-back}
 use Rattle.memory_laws.specs.Parts.{alike-read, readable-all-alike}
 
@@ -47,12 +50,14 @@ record Moved (f : List ℕ) (c : Cell) (F : Form) (bs xs ys : List ℕ) : Type 0
   kept : heldAs f F (cell (c .shape) (nodeAs f F 0 c bs)) ≡ true → heldAs f F (cell (c .shape) (nodeAs f F (length xs) c bs)) ≡ true
   slim : narrowAs F (listed (xs ++ (textAs F bs ++ ys))) (cell (c .shape) (nodeAs f F (length xs) c bs)) ≡ true
   same : bytesAs f F (listed (xs ++ (textAs F bs ++ ys))) (cell (c .shape) (nodeAs f F (length xs) c bs)) ≡ bytesAs f F (listed (textAs F bs)) (cell (c .shape) (nodeAs f F 0 c bs))
+  wide : heldAs f F (cell (c .shape) (nodeAs f F 0 c bs)) ≡ true → nodeAs f F (length xs) c bs .width ≤ 1
 
 module _ (f : List ℕ) (c : Cell) (bs xs ys : List ℕ) where
   -- what is known of the first, by its form
   record Firsts (F : Form) : Type 0 where
     fits : heldConstant f (cell (c .shape) (nodeAs f F 0 c bs)) ≡ true → Fitting F (constantOn (nodeAs f F 0 c bs))
     again : (d : Constant) → heldConstant f (cell (c .shape) (nodeAs f F 0 c bs)) ≡ true → Again F (constantOn (nodeAs f F 0 c bs)) d → fitsUpTo f (suc (count f shapes)) (c .shape) d ≡ true
+    literals : Literals F
 
   moved-string : (most width : ℕ) → Bytes bs → Firsts (form.String most width) → Moved f c (form.String most width) bs xs ys
   unfolding heldAs narrowAs bytesAs nodeAs textAs stringRead textOn stringFrom constantOn constantOf
@@ -63,24 +68,26 @@ module _ (f : List ℕ) (c : Cell) (bs xs ys : List ℕ) where
       let many : length (textFrom one n (drop 4 bs)) ≡ n = text-many one n (drop 4 bs) in
       let begin : ℕ = pick (eqb n 0) 0 (length xs) in
       let d : Constant = constantOf 8 0 begin n width in
+      let wide : heldConstant f (cell (c .shape) (stringRead 0 n width)) ≡ true → leb width 1 ≡ true = λ e. held-width f (cell (c .shape) (stringRead 0 n width)) most width e (k .fits e) in
       let text : charactersFrom (listed (xs ++ (cs ++ ys))) begin n ≡ cs = listed-string cs n many xs ys in
       record {
-        kept = λ e. held-by f (c .shape) d (string-plain begin n width (string-width 8 0 (pick (eqb n 0) 0 0) n width refl (plain-held f (cell (c .shape) (nodeOf (constantOf 8 0 (pick (eqb n 0) 0 0) n width))) e))) (k .again d e (refl, refl, k .fits e .1, refl, λ z. rw z));
+        kept = λ e. held-by f (c .shape) d (string-plain begin n width (wide e)) (k .again d e (refl, refl, k .fits e .1, refl, λ z. rw z));
         slim = ap (everyBelow (256 ^ one)) text ∙ text-below one n (drop 4 bs) (bytes-drop 4 bs b);
         same = ap (stringBytes most width) (text ∙ sym (listed-own cs n many));
+        wide = λ e. leb-true width 1 (wide e);
       }
 
   moved : (F : Form) → Bytes bs → Firsts F → Moved f c F bs xs ys
-  unfolding heldAs narrowAs bytesAs nodeAs textAs
-  moved form.Head b k = record { kept = λ e. e; slim = refl; same = refl }
-  moved form.Null b k = record { kept = λ e. e; slim = refl; same = refl }
-  moved form.Bool b k = record { kept = λ e. e; slim = refl; same = refl }
-  moved (form.Number signed bits kind width) b k = record { kept = λ e. e; slim = refl; same = refl }
-  moved form.Real b k = record { kept = λ e. e; slim = refl; same = refl }
-  moved form.LongReal b k = record { kept = λ e. e; slim = refl; same = refl }
+  unfolding heldAs narrowAs bytesAs nodeAs textAs realRead literalRead literal constantOf
+  moved form.Head b k = record { kept = λ e. e; slim = refl; same = refl; wide = λ e. omega arith }
+  moved form.Null b k = record { kept = λ e. e; slim = refl; same = refl; wide = λ e. omega arith }
+  moved form.Bool b k = record { kept = λ e. e; slim = refl; same = refl; wide = λ e. omega arith }
+  moved (form.Number signed bits kind width) b k = record { kept = λ e. e; slim = refl; same = refl; wide = λ e. literal-width signed kind width (k .literals) }
+  moved form.Real b k = record { kept = λ e. e; slim = refl; same = refl; wide = λ e. omega arith }
+  moved form.LongReal b k = record { kept = λ e. e; slim = refl; same = refl; wide = λ e. omega arith }
   moved (form.String most width) b k = moved-string most width b k
-  moved (form.Enumeration first count) b k = record { kept = λ e. e; slim = refl; same = refl }
-  moved form.Nothing b k = record { kept = λ e. e; slim = refl; same = refl }
+  moved (form.Enumeration first count) b k = record { kept = λ e. e; slim = refl; same = refl; wide = λ e. omega arith }
+  moved form.Nothing b k = record { kept = λ e. e; slim = refl; same = refl; wide = λ e. omega arith }
 
 -- ---- one node
 module _ (f : List ℕ) (c : Cell) (bs xs ys : List ℕ) (h : Bytes bs) (e : readable f c bs ≡ true) where
@@ -108,13 +115,19 @@ module _ (f : List ℕ) (c : Cell) (bs xs ys : List ℕ) (h : Bytes bs) (e : rea
   unfolding nodeRead
   moves =
       moved f c bs xs ys (formOf f c) h
-      (record { fits = λ z. rw first-form at (fitting f first z); again = λ d z a. again-form f first d z (rw first-form a) })
+      (record { fits = λ z. rw first-form at (fitting f first z); again = λ d z a. again-form f first d z (rw first-form a); literals = literal-form f c })
+
+  first-held : heldAs f (formOf f c) first ≡ true
+  unfolding held
+  first-held = ap (λ F. heldAs f F first) (sym first-form) ∙ is-read .0
 
   held-again : held f behind ≡ true
   unfolding held nodeRead
-  held-again =
-      let x : heldAs f (formOf f c) first ≡ true = ap (λ F. heldAs f F first) (sym first-form) ∙ is-read .0 in
-      ap (λ F. heldAs f F behind) behind-form ∙ moves .kept x
+  held-again = ap (λ F. heldAs f F behind) behind-form ∙ moves .kept first-held
+
+  uncut-again : uncutCell behind ≡ behind
+  unfolding nodeRead
+  uncut-again = none-cut behind (moves .wide first-held)
 
   narrow-again : narrow f (listed (xs ++ (textRead f c bs ++ ys))) behind ≡ true
   unfolding narrow nodeRead textRead
@@ -128,9 +141,10 @@ module _ (f : List ℕ) (c : Cell) (bs xs ys : List ℕ) (h : Bytes bs) (e : rea
       ∙ ap (λ F. bytesAs f F (listed (textRead f c bs)) first) (sym first-form)
       ∙ is-read .1
 
--- ---- a whole tree: what is read has the parts asked for, is held and narrow, and is written as these bytes
+-- ---- a whole tree: what is read has the parts asked for and no characters cut, is held and narrow, and is written as these bytes
 pub record WrittenAgain (f : List ℕ) (cs : List Cell) (bs text : List ℕ) (ds : List Cell) : Type 0 where
   pub alike : AlikeAll cs ds
+  pub uncut : map uncutCell ds ≡ ds
   pub kept : heldAll f ds ≡ true
   pub slim : narrowAll f (listed text) ds ≡ true
   pub same : bytesAll f (listed text) ds ≡ bs
@@ -138,7 +152,7 @@ pub record WrittenAgain (f : List ℕ) (cs : List Cell) (bs text : List ℕ) (ds
 again-behind : (f : List ℕ) (cs : List Cell) (bs xs : List ℕ) (at : ℕ) → at ≡ length xs → Bytes bs → readableAll f cs bs ≡ true
     → WrittenAgain f cs bs (xs ++ textAll f cs bs) (cellsRead f at cs bs)
 unfolding readableAll textAll cellsRead heldAll narrowAll bytesAll
-again-behind f [] [] xs at l h e = record { alike = all-done; kept = refl; slim = refl; same = refl }
+again-behind f [] [] xs at l h e = record { alike = all-done; uncut = refl; kept = refl; slim = refl; same = refl }
 again-behind f [] (b ∷ bs) xs at l h e = never e
 again-behind f (c ∷ cs) bs xs at l h e =
     let own : List ℕ = take (size f c) bs in
@@ -152,6 +166,7 @@ again-behind f (c ∷ cs) bs xs at l h e =
     let d : ℕ → Cell = λ n. cell (c .shape) (nodeRead f n c own) in
     record {
       alike = all-next (alike-read f at c own) (rest .alike);
+      uncut = both-same (ap (λ n. uncutCell (d n)) l ∙ uncut-again f c own xs later b (x .0) ∙ ap d (sym l)) (rest .uncut);
       kept = and-true (ap (λ n. held f (d n)) l ∙ held-again f c own xs later b (x .0)) (rest .kept);
       slim = and-true (ap (λ n. narrow f (listed (xs ++ (text ++ later))) (d n)) l ∙ narrow-again f c own xs later b (x .0)) (rest .slim);
       same =
@@ -163,6 +178,9 @@ again-behind f (c ∷ cs) bs xs at l h e =
   where
     and-true : {a b : Bool} → a ≡ true → b ≡ true → a && b ≡ true
     and-true p q = rw (p, q)
+
+    both-same : {x y : Cell} {xs ys : List Cell} → x ≡ y → xs ≡ ys → x ∷ xs ≡ y ∷ ys
+    both-same p q = rw (p, q)
 
 pub written-again : (f : List ℕ) (cs : List Cell) (bs : List ℕ) → Bytes bs → readableAll f cs bs ≡ true → WrittenAgain f cs bs (textAll f cs bs) (cellsRead f 0 cs bs)
 written-again f cs bs h e = again-behind f cs bs [] 0 refl h e

@@ -2,12 +2,12 @@
 use mathlib.Core.Path.{_≡_, refl, ap, sym, _∙_}
 use mathlib.Core.Bool.{Bool, true, false, _&&_, _||_}
 use mathlib.Core.List.{List}
-use Prim.Native.Nat.{ℕ, zero, suc, _≤_, min}
+use Prim.Native.Nat.{ℕ, zero, suc, _+_, _-_, _*_, _≤_, min}
 use native.Mathlib.Omega.{arith}
 use native.Mathlib.Nat.{min-eq-left, min-le-right}
 use lib.Dec.{eqb, leb}
 use lib.IntN.{ℤ}
-use borrow.Author.Tests.{eqb-true, eq-eqb}
+use borrow.Author.Tests.{eqb-true, eq-eqb, leb-true}
 use Rattle.definition.specs.declared.records.Shape.{Shape}
 use Rattle.definition.specs.declared.records.Shape.the-variants as shape
 use Rattle.definition.specs.declared.records.Constant.{Constant}
@@ -24,22 +24,38 @@ use Rattle.memory_definition.specs.declared.form.Form.{Form}
 use Rattle.memory_definition.specs.declared.form.Form.the-variants as form
 use Rattle.memory_definition.specs.Cells.{Cell, cell}
 use Rattle.memory_definition.specs.Forms.{asInteger, asText, storedBy, storedUpTo, stored, isHead, formAt, formOf, constantOn, sameConstant, isSame, unchanged, onBase, fitsUpTo, heldConstant, nodeOf}
+use Rattle.memory_laws.specs.Uncut.{uncut-word}
+
+-- ---- a plain constant is what a node of its words holds: a string's last word is its width, with no characters cut
+abbrev pub Plain : Constant → Type 0
+Plain d = constantPlain (d .kind) (d .sign) (d .low) (d .high) (d .width) ≡ true
+
+string-width : (d : Constant) → d .kind ≡ 8 → Plain d → leb (d .width) 1 ≡ true
+unfolding constantPlain
+string-width d k p =
+    let x : eqb (d .sign) 0 && leb (d .width) 1 ≡ true = rw k at p in
+    both (eqb (d .sign) 0) (leb (d .width) 1) x .1
+
+plain-on : (d : Constant) → Plain d → constantOn (nodeOf d) ≡ d
+unfolding constantOn constantOf
+plain-on d p = rw (uncut-word (d .kind) (d .width) (λ k. leb-true (d .width) 1 (string-width d k p)))
 
 -- ---- a constant is held if it is plain and fits
-pub plain-held : (f : List ℕ) (c : Cell) → heldConstant f c ≡ true → constantPlain (c .node .kind) (c .node .sign) (c .node .low) (c .node .high) (c .node .width) ≡ true
+pub plain-held : (f : List ℕ) (c : Cell) → heldConstant f c ≡ true → Plain (constantOn (c .node))
 unfolding heldConstant
 plain-held f c e =
-    both (constantPlain (c .node .kind) (c .node .sign) (c .node .low) (c .node .high) (c .node .width)) (fitsUpTo f (suc (count f shapes)) (c .shape) (constantOn (c .node))) e .0
+    let d : Constant = constantOn (c .node) in
+    both (constantPlain (d .kind) (d .sign) (d .low) (d .high) (d .width)) (fitsUpTo f (suc (count f shapes)) (c .shape) d) e .0
 
 pub fits-held : (f : List ℕ) (c : Cell) → heldConstant f c ≡ true → fitsUpTo f (suc (count f shapes)) (c .shape) (constantOn (c .node)) ≡ true
 unfolding heldConstant
 fits-held f c e =
-    both (constantPlain (c .node .kind) (c .node .sign) (c .node .low) (c .node .high) (c .node .width)) (fitsUpTo f (suc (count f shapes)) (c .shape) (constantOn (c .node))) e .1
+    let d : Constant = constantOn (c .node) in
+    both (constantPlain (d .kind) (d .sign) (d .low) (d .high) (d .width)) (fitsUpTo f (suc (count f shapes)) (c .shape) d) e .1
 
-pub held-by : (f : List ℕ) (s : Shape) (d : Constant) → constantPlain (d .kind) (d .sign) (d .low) (d .high) (d .width) ≡ true → fitsUpTo f (suc (count f shapes)) s d ≡ true
-    → heldConstant f (cell s (nodeOf d)) ≡ true
-unfolding heldConstant constantOn constantOf
-held-by f s d p q = rw (p, q)
+pub held-by : (f : List ℕ) (s : Shape) (d : Constant) → Plain d → fitsUpTo f (suc (count f shapes)) s d ≡ true → heldConstant f (cell s (nodeOf d)) ≡ true
+unfolding heldConstant
+held-by f s d p q = rw (plain-on d p, p, q)
 
 -- ---- what conversion returns unchanged
 same-self : (c : Constant) → sameConstant c c ≡ true
@@ -122,16 +138,22 @@ fitting-real bits c = go (isInteger c) _ _
     go true low high e = cc
     go false low high e = eqb-true (c .kind) 3 (kept-test (eqb (c .kind) 3) c c e)
 
+-- a string's run of characters cut to so many, at a place of a width (`cutString`)
+abbrev pub cutTo : ℕ → Constant → ℕ → Constant
+cutTo width c most = constantOf 8 0 (pick (eqb (min (c .high) most) 0) 0 (c .low)) (min (c .high) most) (width + 2 * (c .high - min (c .high) most))
+
 fitting-string : (f : List ℕ) (length width : ℕ) (c : Constant) → asString f length width c ≡ ok c → Fitting (asText (maxLength f length) width) c
 unfolding asString cutString constantOf
 fitting-string f length width c = go (eqb (c .kind) 8) (maxLength f length)
   where
     go : (b : Bool) (r : Result ℕ)
-        → pick b (onResult r (λ most. ok (constantOf 8 0 (pick (eqb (min (c .high) most) 0) 0 (c .low)) (min (c .high) most) width))) none ≡ ok c
+        → pick b (onResult r (λ most. ok (cutTo width c most))) none ≡ ok c
         → Fitting (asText r width) c
     go true (ok most) e =
+        -- no character is cut, so that the last word is the width
         let m : min (c .high) most ≡ c .high = cc in
-        (cc, omega (arith, m, min-le-right (c .high) most), cc)
+        let w : width + 2 * (c .high - min (c .high) most) ≡ c .width = cc in
+        (cc, omega (arith, m, min-le-right (c .high) most), omega (arith, m, w))
     go true none e = tt
     go true large e = tt
     go false (ok most) e = let z : _≡_ {A = ℕ} 0 1 = cc in absurd (omega arith)
@@ -186,6 +208,10 @@ fitting f c e =
     on-pick (λ F. Fitting F (constantOn h)) (isHead (h .kind)) form.Head (pick (eqb (h .kind) 10) form.Null (storedUpTo f k (c .shape))) (λ z. tt)
     (λ y. on-pick (λ F. Fitting F (constantOn h)) (eqb (h .kind) 10) form.Null (storedUpTo f k (c .shape)) (λ z. tt) (λ z. fitting-up-to f k (c .shape) (constantOn h) (fits-held f c e)))
 
+-- a string's form has a width that a file's shape may have
+pub held-width : (f : List ℕ) (c : Cell) (most width : ℕ) → heldConstant f c ≡ true → Fitting (form.String most width) (constantOn (c .node)) → leb width 1 ≡ true
+held-width f c most width e fit = rw (fit .2) at (string-width (constantOn (c .node)) (fit .0) (plain-held f c e))
+
 -- ---- where one fits, so does another of the form's own kind: a number of the same value, any REAL, a string that is not longer
 abbrev pub Again : Form → Constant → Constant → Type 0
 Again form.Head c d = ⊥
@@ -235,11 +261,12 @@ again-string f length width c d = go (maxLength f length)
     begins false e h = refl
 
     go : (r : Result ℕ) → Again (asText r width) c d
-        → pick (eqb (d .kind) 8) (onResult r (λ most. ok (constantOf 8 0 (pick (eqb (min (d .high) most) 0) 0 (d .low)) (min (d .high) most) width))) none ≡ ok d
+        → pick (eqb (d .kind) 8) (onResult r (λ most. ok (cutTo width d most))) none ≡ ok d
     go (ok most) h =
         let long : min (d .high) most ≡ d .high = min-eq-left (h .2) in
-        ap (λ b. pick b (ok (constantOf 8 0 (pick (eqb (min (d .high) most) 0) 0 (d .low)) (min (d .high) most) width)) none) (eq-eqb (d .kind) 8 (h .0))
-        ∙ ap ok (constant-is d (sym (h .0)) (sym (h .1)) (ap (λ n. pick (eqb n 0) 0 (d .low)) long ∙ begins (eqb (d .high) 0) refl (h .4)) long (sym (h .3)))
+        let last : width + 2 * (d .high - min (d .high) most) ≡ d .width = omega (arith, long, h .3) in
+        ap (λ b. pick b (ok (cutTo width d most)) none) (eq-eqb (d .kind) 8 (h .0))
+        ∙ ap ok (constant-is d (sym (h .0)) (sym (h .1)) (ap (λ n. pick (eqb n 0) 0 (d .low)) long ∙ begins (eqb (d .high) 0) refl (h .4)) long last)
     go none h = absurd h
     go large h = absurd h
 
@@ -353,6 +380,13 @@ literal-leaf signed kind width (duration k w) = (rw k, rw k)
 literal-leaf signed kind width (timeOfDay k w z) = (rw k, rw k)
 literal-leaf signed kind width (date k w z) = (rw k, rw k)
 literal-leaf signed kind width (dateAndTime k w z) = (rw k, rw k)
+
+pub literal-width : (signed : Bool) (kind width : ℕ) → Literal signed kind width → width ≤ 1
+literal-width signed kind width (integer k w) = omega arith
+literal-width signed kind width (duration k w) = w
+literal-width signed kind width (timeOfDay k w z) = w
+literal-width signed kind width (date k w z) = w
+literal-width signed kind width (dateAndTime k w z) = w
 
 abbrev pub Literals : Form → Type 0
 Literals form.Head = Unit {0}

@@ -6,6 +6,8 @@ pub mod Reals
 pub mod Bytes
 -- a string read again, and characters that are listed
 pub mod Strings
+-- characters cut, which change nothing
+pub mod Uncut
 -- which constants fit a shape, by its form in memory
 pub mod Fits
 -- how many bytes a node has, and that its shape and its part in the tree decide it

@@ -27,16 +27,16 @@ use Rattle.memory_definition.specs.Forms.{Characters, constantOn, fitsUpTo, hel
 use Rattle.memory_laws.specs.Bytes.{number-le, joined-parts, parts-joined, joined-lt, Signed, up, down, plain-sign, Sided, plain, negative, natural, sided, complement-lt, complement-back}
 use Rattle.memory_laws.specs.Reals.{widened-nan, narrowed-lt, narrowed-nan, narrowed-widened}
 use Rattle.memory_laws.specs.Strings.{string-length, string-read, listed-own}
-use Rattle.memory_laws.specs.Fits.{plain-held, held-by, Fitting, Again, Literal, integer, duration, timeOfDay, date, dateAndTime, Literals}
+use Rattle.memory_laws.specs.Fits.{Plain, plain-held, held-by, held-width, Fitting, Again, Literal, integer, duration, timeOfDay, date, dateAndTime, Literals}
 use Rattle.memory_laws.specs.Lengths.{characters-many}
 use Rattle.memory_laws.specs.Same.{asReadAs, textOfAs, SizedAs, Words}
 
 -- ---- plain constants
-bool-low : (kind sign low high width : ℕ) → kind ≡ 0 → constantPlain kind sign low high width ≡ true → leb low 1 ≡ true
+bool-low : (d : Constant) → d .kind ≡ 0 → Plain d → leb (d .low) 1 ≡ true
 unfolding constantPlain
-bool-low kind sign low high width k p =
-    let x : leb low 1 && unused (sign ∷ high ∷ width ∷ []) ≡ true = rw k at p in
-    both (leb low 1) (unused (sign ∷ high ∷ width ∷ [])) x .0
+bool-low d k p =
+    let x : leb (d .low) 1 && unused (d .sign ∷ d .high ∷ d .width ∷ []) ≡ true = rw k at p in
+    both (leb (d .low) 1) (unused (d .sign ∷ d .high ∷ d .width ∷ [])) x .0
 
 bool-plain : (low : ℕ) → leb low 1 ≡ true → constantPlain 0 0 low 0 0 ≡ true
 unfolding constantPlain unused
@@ -49,12 +49,6 @@ real-plain low high = refl
 pub string-plain : (low high width : ℕ) → leb width 1 ≡ true → constantPlain 8 0 low high width ≡ true
 unfolding constantPlain
 string-plain low high width l = l
-
-pub string-width : (kind sign low high width : ℕ) → kind ≡ 8 → constantPlain kind sign low high width ≡ true → leb width 1 ≡ true
-unfolding constantPlain
-string-width kind sign low high width k p =
-    let x : eqb sign 0 && leb width 1 ≡ true = rw k at p in
-    both (eqb sign 0) (leb width 1) x .1
 
 signed-plain : (sign low high : ℕ) → Signed sign (joined low high) → eqb sign 0 || (eqb sign 1 && not (unused (low ∷ high ∷ []))) ≡ true
 unfolding unused joined
@@ -140,7 +134,7 @@ module _ (f : List ℕ) (text : Characters) (c : Cell) where
   unfolding heldAs bytesAs nodeAs textAs textOfAs asReadAs constantOf constantOn
   back-bool k e =
       let fit = k .fits e in
-      let low : leb (c .node .low) 1 ≡ true = bool-low (c .node .kind) (c .node .sign) (c .node .low) (c .node .high) (c .node .width) fit (plain-held f c e) in
+      let low : leb (c .node .low) 1 ≡ true = bool-low (constantOn (c .node)) fit (plain-held f c e) in
       let own : numberFrom (littleEndian 1 (c .node .low)) ≡ c .node .low = number-le 1 (c .node .low) ∙ mod-eq-of-lt (omega (arith, leb-true (c .node .low) 1 low)) in
       record {
         node = λ at. ap (λ n. nodeOf (constantOf 0 0 n 0 0)) own;
@@ -155,7 +149,7 @@ module _ (f : List ℕ) (text : Characters) (c : Cell) where
   back-number signed bits kind width k e =
       let d : Constant = constantOn (c .node) in
       let sign : Signed (c .node .sign) (joined (c .node .low) (c .node .high)) =
-      plain-sign (c .node .kind) (c .node .sign) (c .node .low) (c .node .high) (c .node .width) (plain-held f c e) in
+      plain-sign (d .kind) (d .sign) (d .low) (d .high) (d .width) (plain-held f c e) in
       let side : Sided signed bits (c .node .sign) (joined (c .node .low) (c .node .high)) = sided signed bits (c .node .sign) (joined (c .node .low) (c .node .high)) sign (k .fits e) in
       let full : 256 ^ (bits / 8) ≡ 2 ^ bits = bytes-pow (bits / 8) ∙ ap (λ n. 2 ^ n) (k .sizes .1) in
       let own : numberFrom (littleEndian (bits / 8) (complement bits d)) ≡ complement bits d =
@@ -225,7 +219,7 @@ module _ (f : List ℕ) (text : Characters) (c : Cell) where
       let fit = k .fits e in
       let short : length (charactersFrom text low high) < 65536 = omega (arith, many, fit .1, k .sizes) in
       let own : lengthFrom (stringBytes most width cs) ≡ high = string-length most width cs short ∙ many in
-      let wide : leb width 1 ≡ true = rw (fit .2) at (string-width (c .node .kind) (c .node .sign) low high (c .node .width) (fit .0) (plain-held f c e)) in
+      let wide : leb width 1 ≡ true = held-width f c most width e fit in
       let start : ℕ = pick (eqb high 0) 0 0 in
       record {
         node = λ at. ap (λ n. nodeOf (constantOf 8 0 (pick (eqb n 0) 0 at) n width)) own;

@@ -1,5 +1,5 @@
 -- What a tree is after it is written and read back (document 02, Q-1: "Written and read back, a tree is the same but for node names, qualifiers, rounded REALs, literal kinds
--- and widths, and characters' places"). That it is that is proved in ReadBack.antt.
+-- and widths, and characters' places"; Q-2: "a tree read from bytes has none cut"). That it is that is proved in ReadBack.antt.
 use mathlib.Core.Path.{_≡_}
 use mathlib.Core.List.{List, [], _∷_, _++_}
 use Prim.Native.Nat.{ℕ, _+_, _*_, _/_, _^_, _≤_, _<_}
@@ -16,7 +16,7 @@ use Rattle.memory_definition.specs.Numbers.{narrowed, widened}
 use Rattle.memory_definition.specs.Forms.{Characters, formOf, constantOn, textOn, nodeOf, realRead}
 use Rattle.memory_definition.specs.Memory.{nodeWordsOf}
 
--- ---- the same but for names, qualifiers, rounded REALs, kinds and widths of literals, and the places of characters
+-- ---- the same but for names, qualifiers, rounded REALs, kinds and widths of literals, the places of characters, and the characters cut
 unfoldable pub asReadAs : Form → ℕ → Node → Node
 -- a head keeps its kind and its count
 asReadAs form.Head at h = nodeOf (constantOf (h .kind) 0 (h .low) 0 0)
@@ -26,7 +26,7 @@ asReadAs form.Bool at h = nodeOf (constantOf 0 0 (h .low) 0 0)
 asReadAs (form.Number signed bits kind width) at h = nodeOf (constantOf kind (h .sign) (h .low) (h .high) width)
 asReadAs form.Real at h = realRead (widened (narrowed (sizeOf (constantOn h))))
 asReadAs form.LongReal at h = nodeOf (constantOf 3 0 (h .low) (h .high) 0)
--- a string its length; its characters stand behind so many others, at 0 if it has none
+-- a string its length; its characters stand behind so many others, at 0 if it has none, and the last word is its place's width alone
 asReadAs (form.String most width) at h = nodeOf (constantOf 8 0 (pick (eqb (h .high) 0) 0 at) (h .high) width)
 -- an enumerated value its member's name, without a qualifier
 asReadAs (form.Enumeration first count) at h = nodeOf (constantOf 9 0 (h .low) 0 0)

@@ -104,9 +104,10 @@ none-same (b ∷ bs) = rw (eqb·suc-zero (length bs))
 pub whole-bytes : (bits : ℕ) → 8 * (bits / 8) ≡ bits → 256 ^ (bits / 8) ≡ 2 ^ bits
 whole-bytes bits e = bytes-pow (bits / 8) ∙ ap (λ x. 2 ^ x) e
 
-on-node : (c : Constant) → constantOn (nodeOf c) ≡ c
-unfolding constantOn constantOf
-on-node c = refl
+-- a literal's number does not depend on its last word
+on-node : (bits : ℕ) (c : Constant) → complement bits (constantOn (nodeOf c)) ≡ complement bits c
+unfolding constantOn constantOf complement sizeOf
+on-node bits c = refl
 
 real-size : (n : ℕ) → sizeOf (constantOn (realRead n)) ≡ n
 unfolding realRead sizeOf constantOn constantOf
@@ -236,7 +237,7 @@ module _ (f : List ℕ) (s : Cell) (bs : List ℕ) (b : Bytes bs) where
   number-back signed bits kind width p l =
       let n : ℕ = numberFrom bs in
       let small : n < 2 ^ bits = subst (λ (x : ℕ). n < x) (ap (λ x. 256 ^ x) l ∙ whole-bytes bits p) (number-lt bs b) in
-      ap (complement bits) (on-node (literalRead signed bits kind width n)) ∙ complement-read signed bits kind width n small
+      on-node bits (literalRead signed bits kind width n) ∙ complement-read signed bits kind width n small
 
   nothing-held : (d : Cell) → heldAs f form.Nothing d ≡ true → false ≡ true
   unfolding heldAs

@@ -7,4 +7,5 @@ pub constant-on-spec : {M : Type 1} → statement M
 constant-on-spec =
     tie.close
     (tie.spec
+    (λ c κs. search holding)
     (λ c. search holding))

@@ -8,10 +8,10 @@ held-constant-spec =
     tie.close
     (tie.spec
     (λ c κs. search holding)
+    (λ c κs. search holding)
     (λ c. search holding)
     (λ c κs. search holding)
     (λ c. search holding)
     (λ c. search holding)
-    (λ c κs. search holding)
     (λ c κs. search holding)
     (λ c. search holding))

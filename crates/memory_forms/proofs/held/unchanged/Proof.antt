@@ -7,9 +7,12 @@ pub unchanged-spec : {M : Type 1} → statement M
 unchanged-spec =
     tie.close
     (tie.spec
+    (λ c. search holding)
+    (λ c κs. search holding)
+    (λ c κs. search holding)
+    (λ c. search holding)
     (λ c κs. search holding)
     (λ c. search holding)
     (λ c. search holding)
     (λ c. search holding)
-    (λ c κs. search holding)
     (λ c. search holding))
