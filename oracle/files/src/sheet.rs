@@ -3,6 +3,7 @@
 //! sheet meets first.
 
 use crate::layout::*;
+use crate::memory::STRING;
 
 /// The fixed words of each line: a type's without its rank.
 #[derive(Clone, Debug, Default, PartialEq, Eq)]
@@ -14,33 +15,6 @@ pub struct Lines {
 
 /// Words of a node.
 const NODE: usize = 6;
-
-/// The kind of a string's node.
-const STRING: u32 = 8;
-
-/// Leaves the characters cut out of the words of nodes: the last of a string's
-/// is its width plus 2 × those (document 02, Q-2).
-pub fn leave_out_cut(nodes: &mut [u32]) {
-    for node in nodes.chunks_exact_mut(NODE).filter(|node| node[1] == STRING) {
-        node[NODE - 1] %= 2;
-    }
-}
-
-impl Lines {
-    /// The lines with the characters cut left out.
-    pub fn without_cut(&self) -> Lines {
-        let of = |lines: &[Vec<u32>], head: usize| -> Vec<Vec<u32>> {
-            let mut lines = lines.to_vec();
-            lines.iter_mut().for_each(|line| leave_out_cut(&mut line[head..]));
-            lines
-        };
-        Lines {
-            types: of(&self.types, 2),
-            variables: of(&self.variables, 2),
-            completed: of(&self.completed, 3),
-        }
-    }
-}
 
 // Uses.
 
@@ -129,6 +103,30 @@ fn section(words: &mut Vec<u32>, lines: impl ExactSizeIterator<Item = Vec<u32>>)
     }
 }
 
+/// Leaves the characters cut out of the words of nodes: a string's last word is
+/// its width plus 2 × those (document 02, Q-2).
+pub fn leave_out_cut(nodes: &mut [u32]) {
+    for node in nodes.chunks_exact_mut(NODE).filter(|node| node[1] == STRING) {
+        node[NODE - 1] %= 2;
+    }
+}
+
+/// Where the last words of strings stand in the sheet of these lines.
+pub fn last_words(lines: &Lines) -> Vec<usize> {
+    let mut places = Vec::new();
+    let mut at = 0;
+    for (lines, rank, head) in [(&lines.types, 1, 2), (&lines.variables, 0, 2), (&lines.completed, 0, 3)] {
+        at += 1;
+        for line in lines {
+            at += rank;
+            let strings = (head..line.len()).step_by(NODE).filter(|node| line[node + 1] == STRING);
+            places.extend(strings.map(|node| at + node + NODE - 1));
+            at += line.len();
+        }
+    }
+    places
+}
+
 /// The sheet of these lines with these ranks.
 pub fn sheet(lines: &Lines, ranks: &[u32]) -> Vec<u32> {
     let mut words = Vec::new();
@@ -200,33 +198,32 @@ fn read_section(words: &[u32], part: Part, count: usize, at: usize) -> Option<(V
     Some((lines, begin))
 }
 
-/// The ranks of a sheet, and its lines; none where it is no sheet of the file.
-pub fn read(file: &File, words: &[u32]) -> Option<(Vec<u32>, Lines)> {
+/// The lines of a sheet, with the ranks.
+fn read(file: &File, words: &[u32]) -> Option<Lines> {
     let [types, variables] = [TYPES, VARIABLES].map(|section| file.count(section));
     let (types, at) = read_section(words, Part::Types, types, 0)?;
     let (lines, at) = read_section(words, Part::Variables, variables, at)?;
     let (completed, at) = read_section(words, Part::Completed, variables, at)?;
-    let ranks = types.iter().map(|line| line[0]).collect();
-    let lines = Lines {
-        types: types.iter().map(|line| line[1..].to_vec()).collect(),
+    (at == words.len()).then_some(Lines {
+        types,
         variables: lines,
         completed,
-    };
-    (at == words.len()).then_some((ranks, lines))
+    })
 }
 
 /// The first of the refusals 11 to 13 that the sheet `words` of an accepted
 /// file meets, or 0; `right` has the fixed words of its lines.
 pub fn check(file: &File, words: &[u32], right: &Lines) -> u32 {
-    let Some((ranks, lines)) = read(file, words) else {
+    let Some(lines) = read(file, words) else {
         return 11;
     };
-    let rank = |number: u32| ranks[number as usize];
+    let rank = |number: u32| lines.types[number as usize][0];
     let rise = |number: u32| uses(file, number).into_iter().all(|other| rank(other) < rank(number));
     if !(0..file.count(TYPES) as u32).all(rise) {
         return 12;
     }
-    match lines == *right {
+    let types = lines.types.iter().map(|line| line[1..].to_vec()).collect();
+    match (Lines { types, ..lines }) == *right {
         true => 0,
         false => 13,
     }

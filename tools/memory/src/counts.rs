@@ -21,13 +21,14 @@ pub struct Counts {
 }
 
 /// What every run of some thousand files for start memory reaches.
-const REACHED: [&str; 21] = [
+const REACHED: [&str; 22] = [
     "narrow character 255",
     "narrow character 256",
     "narrow character above 256",
     "wide character 65535",
     "wide character 65536",
     "wide character above 65536",
+    "characters cut",
     "REAL not a number",
     "REAL infinite",
     "REAL beyond binary32",
@@ -149,6 +150,9 @@ impl Counts {
         let Form::Text(_, width) = part.form else {
             return;
         };
+        if part.node[5] > 1 {
+            self.reach("characters cut");
+        }
         let names = match width {
             0 => &REACHED[0..3],
             _ => &REACHED[3..6],

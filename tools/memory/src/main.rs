@@ -1,7 +1,7 @@
 //! `memory SEED COUNT SIZE`: start memory of every variable of COUNT generated
 //! files (SIZE is small, medium, large or memory; of some where there are many) by the proved static library
 //! and by a plain reading of document 02 (oracle/files/src/memory.rs) over the
-//! Rust's trees with document 01's limit put in. Written with slices of several
+//! Rust's trees with document 01's limit put in and the characters cut. Written with slices of several
 //! lengths; read back, and read from bytes next to these and from others of the
 //! same parts, with slices for nodes and characters that are exact, a word short
 //! and a word long. Besides: too few work words, numbers that aren't there,
@@ -31,6 +31,7 @@ use generate::random::Random;
 use generate::{file, Size};
 use lent::Lent;
 use library::work_words;
+use oracle::cut::counted;
 use oracle::outcome::{outcome, Outcome};
 
 /// The answer of the writer for none.
@@ -161,6 +162,7 @@ impl Run {
             self.counts.skipped += 1;
             return;
         };
+        let answers = counted(words, &answers).unwrap_or_else(|message| panic!("{message}: {words:?}"));
         let file = File::open(words).expect("it is a file");
         let count = file.count(VARIABLES) as u32;
         let work = work_words(words);

@@ -1,7 +1,8 @@
-//! Sheets with one word changed, and of other lengths.
+//! Sheets with one word changed, with other characters cut, and of other
+//! lengths.
 
 use files::layout::File;
-use files::sheet::check;
+use files::sheet::{check, last_words};
 use generate::random::Random;
 use generate::{file, Size};
 use oracle::right::{right, Right};
@@ -21,7 +22,8 @@ struct Checked<'a> {
 }
 
 impl Checked<'_> {
-    fn compare(&mut self, sheet: &[u32]) {
+    /// What the check answers, once it is the plain reading's.
+    fn compare(&mut self, sheet: &[u32]) -> u32 {
         let file = File::open(self.words).expect("it is a file");
         let number = check(&file, sheet, &self.right.lines);
         self.lent.of(0, 0, self.room);
@@ -30,6 +32,28 @@ impl Checked<'_> {
             differs(&format!("checked: {said} and not {number}"), self.words, sheet);
         }
         self.counts[number as usize] += 1;
+        number
+    }
+
+    /// Every string with one more character cut, with one less and with none:
+    /// refused with 13, or where uses run in a circle with 12.
+    fn cut_changed(&mut self, cut: &mut [u64; 14], sheet: &mut [u32]) {
+        let number = if self.right.ranks.is_some() { 13 } else { 12 };
+        for at in last_words(&self.right.lines) {
+            let right = sheet[at];
+            let words = match right {
+                0 | 1 => vec![right + 2],
+                _ => vec![right + 2, right - 2, right % 2],
+            };
+            for word in words {
+                sheet[at] = word;
+                if self.compare(sheet) != number {
+                    differs(&format!("other characters cut, and not {number}"), self.words, sheet);
+                }
+                cut[number as usize] += 1;
+            }
+            sheet[at] = right;
+        }
     }
 
     /// Every word in turn: 0, one more, one less, another word of the sheet.
@@ -58,7 +82,7 @@ impl Checked<'_> {
 
 pub fn run(seed: u64, count: u64, size: Size) {
     let mut random = Random::new(&[seed]);
-    let mut counts = [0; 14];
+    let [mut counts, mut cut] = [[0; 14]; 2];
     let mut files = 0;
     let mut lent = Lent::default();
     for number in 0..count {
@@ -76,6 +100,7 @@ pub fn run(seed: u64, count: u64, size: Size) {
             lent: &mut lent,
         };
         checked.words_changed(&mut random, &mut sheet);
+        checked.cut_changed(&mut cut, &mut sheet);
         checked.lengths_changed(&mut random, &sheet);
         files += 1;
     }
@@ -83,4 +108,5 @@ pub fn run(seed: u64, count: u64, size: Size) {
         "{files} files: {} pass, {} refused 11, {} refused 12, {} refused 13",
         counts[0], counts[11], counts[12], counts[13]
     );
+    println!("of these with other characters cut alone: {} refused 12, {} refused 13", cut[12], cut[13]);
 }

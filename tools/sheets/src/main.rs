@@ -1,12 +1,15 @@
 //! `sheets written SEED COUNT SIZE`: the sheet that the proved static library
 //! writes for each of COUNT generated files (SIZE is small, medium or large)
-//! against the Rust with document 01's limit on trees put in, against the
-//! library's own trees and against its check. Besides: slices that are a word
-//! short, ranks that are raised together, circles, damaged files.
+//! against the Rust with document 01's limit on trees put in: its own lines, the
+//! characters cut of strings left out, and all words with the characters cut
+//! (oracle/oracle/src/cut.rs); against the library's own trees and against its
+//! check. Besides: slices that are a word short, ranks that are raised together,
+//! circles, damaged files.
 //!
 //! `sheets changed SEED COUNT SIZE`: every word of a file's sheet changed in
-//! turn, and every shorter length: what the library's check answers against a
-//! plain reading of document 01 (oracle/files/src/sheet.rs).
+//! turn, every string's characters cut, and every shorter length: what the
+//! library's check answers against a plain reading of document 01
+//! (oracle/files/src/sheet.rs).
 //!
 //! Either fails on any difference.
 

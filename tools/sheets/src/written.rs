@@ -1,7 +1,7 @@
 //! Sheets that the library writes.
 
 use files::layout::{File, TYPES, VARIABLES};
-use files::sheet::{check, Lines};
+use files::sheet::{check, last_words, sheet, Lines};
 use files::verdict::verdict;
 use generate::damage::damage;
 use generate::random::Random;
@@ -21,6 +21,8 @@ const TREE: usize = 2048 * 6;
 struct Counts {
     sheets: u64,
     words: u64,
+    strings: u64,
+    cut_strings: u64,
     circles: u64,
     other_ranks: [u64; 2],
     short: u64,
@@ -32,13 +34,32 @@ fn refused(number: u32) -> u64 {
     u64::from(number) << 32
 }
 
+/// Writes with slices of these lengths; the answer.
+fn written(words: &[u32], lent: &mut Lent, lengths: [usize; 3]) -> u64 {
+    lent.of(lengths[0], lengths[1], lengths[2]);
+    write_sheet(words, &mut lent.out, &mut lent.lines, &mut lent.room)
+}
+
 /// Writes with slices of these lengths, and ends the run unless the answer and
 /// every word are as expected.
 fn writes(words: &[u32], lent: &mut Lent, lengths: [usize; 3], code: u64, sheet: &[u32]) {
-    lent.of(lengths[0], lengths[1], lengths[2]);
-    let said = write_sheet(words, &mut lent.out, &mut lent.lines, &mut lent.room);
+    let said = written(words, lent, lengths);
     if said != code || !lent.holds(sheet) {
         differs(&format!("written: {said:#x} and not {code:#x}, {lengths:?}"), words, sheet);
+    }
+}
+
+/// Writes as in `writes`, and ends the run unless the sheet is the Rust's own
+/// where the characters cut are left out.
+fn writes_own(words: &[u32], lent: &mut Lent, lengths: [usize; 3], right: &Right, ranks: &[u32]) {
+    let own = sheet(&right.own, ranks);
+    let said = written(words, lent, lengths);
+    let mut without = lent.out[..own.len()].to_vec();
+    for at in last_words(&right.own) {
+        without[at] %= 2;
+    }
+    if said != own.len() as u64 || without != own {
+        differs(&format!("written, without the characters cut: {said:#x} and {without:?}"), words, &own);
     }
 }
 
@@ -109,7 +130,9 @@ fn ranked(counts: &mut Counts, random: &mut Random, words: &[u32], right: &Right
     let [lines, room] = work_words(words).map(|count| count as usize);
     let sheet = right.sheet(ranks);
     let length = sheet.len() + random.below(7) as usize;
-    writes(words, lent, [length, length.min(lines), room], sheet.len() as u64, &sheet);
+    let lengths = [length, length.min(lines), room];
+    writes_own(words, lent, lengths, right, ranks);
+    writes(words, lent, lengths, sheet.len() as u64, &sheet);
     shorter(counts, words, lent, [lines, room], sheet.len());
     checks(words, lent, room, &sheet, 0);
     checks(words, lent, room - 1, &sheet, 10);
@@ -119,6 +142,9 @@ fn ranked(counts: &mut Counts, random: &mut Random, words: &[u32], right: &Right
     }
     counts.sheets += 1;
     counts.words += sheet.len() as u64;
+    let strings = last_words(&right.lines);
+    counts.strings += strings.len() as u64;
+    counts.cut_strings += strings.iter().filter(|at| sheet[**at] > 1).count() as u64;
 }
 
 /// No ranks rise along a circle: 9, and 12 for any of them.
@@ -163,6 +189,10 @@ pub fn run(seed: u64, count: u64, size: Size) {
         damaged(&mut counts, &damage(seed, number, &words), &mut lent);
     }
     println!("{} sheets of {} words together", counts.sheets, counts.words);
+    println!(
+        "each once as the Rust's own without the characters cut, once with these; strings: {}, cut: {}",
+        counts.strings, counts.cut_strings
+    );
     println!(
         "{} circles; other ranks: {} pass, {} do not; {} short slices; {} damaged files; {} files without an answer of the Rust",
         counts.circles, counts.other_ranks[0], counts.other_ranks[1], counts.short, counts.damaged, counts.skipped

@@ -3,7 +3,8 @@
 use crate::names::Names;
 use crate::times;
 
-/// Name, kind, sign, low, high, width.
+/// Name, kind, sign, low, high, width; a string's last word is its width plus
+/// 2 × the characters cut.
 pub type Node = [u32; 6];
 
 /// What a node's kind is called; none for arrays and structures.
@@ -28,10 +29,10 @@ pub fn kind(node: &Node) -> Option<&'static str> {
 
 /// The value of a leaf; a string's run is one of `characters`.
 pub fn value(characters: &[u32], names: &Names, node: &Node) -> Result<String, String> {
-    let [_, kind, sign, low, high, width] = *node;
+    let [_, kind, sign, low, high, last] = *node;
     let size = u64::from(high) << 32 | u64::from(low);
     let signed = if sign == 1 { -i128::from(size) } else { i128::from(size) };
-    let is_long = width == 1;
+    let is_long = last % 2 == 1;
     Ok(match kind {
         0 => ["FALSE", "TRUE"][usize::from(low == 1)].to_string(),
         1 => signed.to_string(),
@@ -41,7 +42,7 @@ pub fn value(characters: &[u32], names: &Names, node: &Node) -> Result<String, S
         5 => times::time_of_day(size, is_long),
         6 => times::date(size, is_long),
         7 => times::date_and_time(size, is_long),
-        8 => string(&characters[low as usize..][..high as usize], is_long),
+        8 => string(&characters[low as usize..][..high as usize], is_long) + &cut(last / 2),
         9 => enumerated(names, low, high)?,
         10 => "NULL".to_string(),
         11 => format!("reference in expression {low}"),
@@ -85,6 +86,14 @@ fn string(characters: &[u32], is_wide: bool) -> String {
     }
     text.push(quote);
     text
+}
+
+/// How many characters were cut from a string's literal, behind the string.
+fn cut(count: u32) -> String {
+    match count {
+        0 => String::new(),
+        count => format!(" ({count} cut)"),
+    }
 }
 
 /// Whether a character stands for itself: in a narrow string those of ASCII.

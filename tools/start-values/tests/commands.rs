@@ -18,14 +18,24 @@ fn written(name: &str, bytes: &[u8]) -> String {
     path.to_str().expect("a path in UTF-8").to_string()
 }
 
-/// The carousel at night: another scene, a lower lamp, and 4 in place of 40000.
-fn night(name: &str) -> String {
+/// The carousel with other records.
+fn changed(name: &str, records: &[(&str, &str)]) -> String {
     let mut text = fs::read_to_string(example("carousel.txt")).expect("it is there");
-    for (day, night) in [("\n1 14 3 0 ", "\n1 14 1 0 "), ("\n1 0 70 0 0 ", "\n1 0 7 0 0 "), ("\n1 0 40000 0 0 ", "\n1 0 4 0 0 ")] {
-        assert_eq!(text.matches(day).count(), 1);
-        text = text.replace(day, night);
+    for (from, to) in records {
+        assert_eq!(text.matches(from).count(), 1);
+        text = text.replace(from, to);
     }
     written(name, text.as_bytes())
+}
+
+/// The carousel at night: another scene, a lower lamp, and 4 in place of 40000.
+fn night(name: &str) -> String {
+    changed(name, &[("\n1 14 3 0 ", "\n1 14 1 0 "), ("\n1 0 70 0 0 ", "\n1 0 7 0 0 "), ("\n1 0 40000 0 0 ", "\n1 0 4 0 0 ")])
+}
+
+/// The carousel with a caption of as many characters as its place has.
+fn short_caption(name: &str) -> String {
+    changed(name, &[("\n8 0 0 6 0 ", "\n8 0 0 5 0 ")])
 }
 
 fn run(arguments: &[&str]) -> Output {
@@ -88,6 +98,26 @@ fn diff_when_the_scene_differs_then_side_by_side() {
     ];
     assert_eq!(out, lines.join("\n") + "\n");
     assert_eq!(said(&["diff", "--text", &example("carousel.txt"), &example("carousel.txt")]), (0, String::new(), String::new()));
+}
+
+#[test]
+fn diff_when_only_the_characters_cut_differ_then_shown() {
+    let names = example("carousel.names");
+    let (status, out, error) = said(&["diff", "--text", &example("carousel.txt"), &short_caption("short.txt"), "--names", &names]);
+    assert_eq!((status, error.as_str()), (1, ""));
+    let caption = |at: i32| format!("carousel.lamps[{at}].caption\tstring\t'L$'1$$2' (1 cut)\tstring\t'L$'1$$2'");
+    let rows: Vec<String> = out.lines().skip(1).map(str::to_string).collect();
+    assert_eq!(rows, [-1, 0, 1].map(caption));
+}
+
+#[test]
+fn check_when_only_the_characters_cut_differ_then_refused() {
+    let sheet = written("caption.sheet", b"");
+    let short = short_caption("caption.txt");
+    assert_eq!(said(&["sheet", "--text", &short, "-o", &sheet]).0, 0);
+    assert_eq!(said(&["check", "--text", &short, &sheet]).1, "passes\n");
+    let refused = "refused 13: a line is not what the file gives\n".to_string();
+    assert_eq!(said(&["check", "--text", &example("carousel.txt"), &sheet]), (1, String::new(), refused));
 }
 
 /// The carousel's variable of this name or number, with these options.

@@ -1,10 +1,12 @@
 //! `trees SEED COUNT SIZE`: every type, every variable and every completed
 //! initializer of COUNT generated files (SIZE is small, medium or large)
 //! through the proved static library and through the Rust with document 01's
-//! limit on trees put in. Besides: answer slices that are a word short and
-//! some words long, a work slice that is a word short, numbers that aren't
-//! there, damaged files. What the work slices hold before a call is any words;
-//! afterwards all are 0. Fails on any difference.
+//! limit on trees put in: its own words, the characters cut of strings left
+//! out, and all words with the characters cut (oracle/oracle/src/cut.rs).
+//! Besides: answer slices that are a word short and some words long, a work
+//! slice that is a word short, numbers that aren't there, damaged files. What
+//! the work slices hold before a call is any words; afterwards all are 0. Fails
+//! on any difference.
 
 #[path = "../../sheets/src/lent.rs"]
 mod lent;
@@ -16,12 +18,15 @@ use std::process::exit;
 
 use answers::{Answers, Tree};
 use files::layout::{File, TYPES, VARIABLES};
+use files::memory::STRING;
+use files::sheet::leave_out_cut;
 use files::verdict::verdict;
 use generate::damage::damage;
 use generate::random::Random;
 use generate::{file, Size};
 use lent::Lent;
 use library::{ask, work_words, What};
+use oracle::cut::counted;
 use oracle::outcome::{outcome, Outcome};
 
 /// Words behind the longest answer.
@@ -41,16 +46,43 @@ struct Counts {
     /// For types, variables and completed initializers: values, none or left,
     /// too large.
     asked: [[u64; 3]; 3],
+    /// Words that are the Rust's own where the characters cut are left out, and
+    /// words that are those with the characters cut.
+    own_words: u64,
+    words: u64,
+    strings: u64,
+    cut_strings: u64,
     short: u64,
     work: u64,
     refusals: [u64; 8],
     skipped: u64,
 }
 
+impl Counts {
+    fn compared(&mut self, right: &Expected) {
+        self.own_words += right.own.len() as u64;
+        self.words += right.words.len() as u64;
+        for node in right.words.chunks(6).filter(|node| node[1] == STRING) {
+            self.strings += 1;
+            self.cut_strings += u64::from(node[5] > 1);
+        }
+    }
+}
+
 /// A question's answer, and the words that it leaves at the front of out.
 struct Expected {
     code: u64,
     words: Vec<u32>,
+    /// The Rust's own, whose strings have a width only.
+    own: Vec<u32>,
+}
+
+/// Whether out has the Rust's own words in front where the characters cut are
+/// left out.
+fn holds_own(out: &[u32], own: &[u32]) -> bool {
+    let mut said = out[..own.len().min(out.len())].to_vec();
+    leave_out_cut(&mut said);
+    said == own
 }
 
 /// Asks, and ends the run unless answer and slices are as expected.
@@ -63,50 +95,54 @@ fn compare(what: What, words: &[u32], number: u32, lent: &mut Lent, expected: &E
         &mut lent.lines,
         &mut lent.room,
     );
-    let right = code == expected.code && lent.holds(&expected.words);
-    if !right {
-        eprintln!("{what:?} {number}: {code:#x} and not {:#x}", expected.code);
+    let is_own = code == expected.code && holds_own(&lent.out, &expected.own);
+    if !is_own || !lent.holds(&expected.words) {
+        let with = if is_own { "with the characters cut" } else { "without the characters cut" };
+        eprintln!("{what:?} {number}, {with}: {code:#x} and not {:#x}", expected.code);
         eprintln!("out: {:?} and not {:?}", lent.out, expected.words);
         eprintln!("the file: {words:?}");
         exit(1);
     }
 }
 
-fn refusal(number: u32) -> Expected {
+/// An answer without words.
+fn without_words(code: u64) -> Expected {
     Expected {
-        code: refused(number),
+        code,
         words: Vec::new(),
+        own: Vec::new(),
     }
 }
 
-fn tree(kind: u32, tree: &Tree) -> Expected {
-    Expected {
-        code: u64::from(kind) * 65536 + tree.len() as u64,
-        words: tree.concat(),
+fn refusal(number: u32) -> Expected {
+    without_words(refused(number))
+}
+
+/// A record's tree, and the kind of a completed initializer.
+fn value(what: What, at: usize, answers: &Answers) -> Option<(u32, &Tree)> {
+    match what {
+        What::Type => answers.types[at].as_ref().map(|tree| (0, tree)),
+        What::Variable => answers.variables[at].as_ref().map(|tree| (0, tree)),
+        What::Completed => answers.completed[at].as_ref().map(|completed| (completed.kind, &completed.tree)),
     }
 }
 
-/// What document 01 and the Rust say of a record that is there.
-fn expected(what: What, number: u32, answers: &Answers) -> Expected {
+/// What document 01 and the Rust say of a record that is there, by its own
+/// answers and by those with the characters cut.
+fn expected(what: What, number: u32, own: &Answers, counted: &Answers) -> Expected {
     let at = number as usize;
     let large: &BTreeSet<u32> = match what {
-        What::Type => &answers.large.types,
-        What::Variable | What::Completed => &answers.large.variables,
+        What::Type => &own.large.types,
+        What::Variable | What::Completed => &own.large.variables,
     };
-    let value = match what {
-        What::Type => answers.types[at].as_ref().map(|nodes| tree(0, nodes)),
-        What::Variable => answers.variables[at].as_ref().map(|nodes| tree(0, nodes)),
-        What::Completed => answers.completed[at]
-            .as_ref()
-            .map(|completed| tree(completed.kind, &completed.tree)),
-    };
-    match value {
-        Some(value) => value,
-        None if large.contains(&number) => refusal(8),
-        None => Expected {
-            code: 0,
-            words: Vec::new(),
+    match (value(what, at, own), value(what, at, counted)) {
+        (Some((kind, own)), Some((_, counted))) => Expected {
+            code: u64::from(kind) * 65536 + own.len() as u64,
+            words: counted.concat(),
+            own: own.concat(),
         },
+        _ if large.contains(&number) => refusal(8),
+        _ => without_words(0),
     }
 }
 
@@ -126,6 +162,7 @@ fn compare_record(
     counts.asked[what as usize][kind] += 1;
     lent.of(right.words.len() + random.below(BEHIND as u32) as usize, lines, room);
     compare(what, words, number, lent, right);
+    counts.compared(right);
     if random.percent(10) && !right.words.is_empty() {
         lent.of(right.words.len() - 1, lines, room);
         compare(what, words, number, lent, &refusal(10));
@@ -140,10 +177,11 @@ fn compare_record(
 }
 
 fn compare_file(counts: &mut Counts, random: &mut Random, lent: &mut Lent, words: &[u32]) {
-    let Outcome::Answered(answers) = outcome(words) else {
+    let Outcome::Answered(own) = outcome(words) else {
         counts.skipped += 1;
         return;
     };
+    let counted = counted(words, &own).unwrap_or_else(|message| panic!("{message}: {words:?}"));
     let file = File::open(words).expect("it is a file");
     for (what, section) in [
         (What::Type, TYPES),
@@ -152,7 +190,7 @@ fn compare_file(counts: &mut Counts, random: &mut Random, lent: &mut Lent, words
     ] {
         let many = file.count(section) as u32;
         for number in 0..many {
-            let right = expected(what, number, &answers);
+            let right = expected(what, number, &own, &counted);
             compare_record(counts, random, lent, what, words, number, &right);
         }
         let past = many.saturating_add(random.pick(&[0, 1, 1000, u32::MAX]));
@@ -201,6 +239,10 @@ fn main() {
     for (what, [values, none, large]) in ["types", "variables", "completed"].iter().zip(counts.asked) {
         println!("{what}: {values} values, {none} none or left, {large} too large");
     }
+    println!(
+        "words: {} are the Rust's own without the characters cut, {} with these; strings: {}, cut: {}",
+        counts.own_words, counts.words, counts.strings, counts.cut_strings
+    );
     println!(
         "short answer slices: {}; short work slices: {}; refusals 1 to 7: {:?}; files without an answer of the Rust: {}",
         counts.short,

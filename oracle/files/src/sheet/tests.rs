@@ -51,33 +51,39 @@ fn check_when_a_word_is_wrong_then_its_refusal() {
     assert_eq!(check(&file, &one_sheet()[..27], &one_lines()), 11, "a word less");
 }
 
-#[test]
-fn check_when_other_characters_are_cut_then_13() {
-    let words = assemble(ONE).expect("it is a file");
-    let file = File::open(&words).expect("it is a file");
-    let node = [0, 8, 0, 0, 3, 5];
-    let right = Lines {
-        variables: vec![[&[0, 1], &node[..]].concat()],
-        ..one_lines()
-    };
-    let mut words = sheet(&right, &[0]);
-    assert_eq!(check(&file, &words, &right), 0);
-    for last in [1, 3, 7, 4] {
-        words[18] = last;
-        assert_eq!(check(&file, &words, &right), 13, "{last}");
+/// A line of each section is a structure of two strings and a duration.
+fn strings() -> Lines {
+    let nodes = [[0, 14, 0, 3, 0, 0], [5, 8, 0, 0, 3, 5], [6, 8, 0, 2, 1, 2], [7, 4, 1, 8, 0, 1]].concat();
+    Lines {
+        types: vec![[&[0, 4], &nodes[..]].concat()],
+        variables: vec![[&[0, 4], &nodes[..]].concat()],
+        completed: vec![[&[0, 8, 4], &nodes[..]].concat()],
     }
 }
 
 #[test]
-fn without_cut_when_a_string_then_its_width_is_left() {
-    let nodes = [[0, 14, 0, 3, 0, 0], [5, 8, 0, 0, 3, 5], [6, 8, 0, 2, 1, 2], [7, 4, 1, 8, 0, 1]].concat();
+fn check_when_other_characters_are_cut_then_13() {
+    let words = assemble(ONE).expect("it is a file");
+    let file = File::open(&words).expect("it is a file");
+    let right = sheet(&strings(), &[0]);
+    assert_eq!(check(&file, &right, &strings()), 0);
+    let places = last_words(&strings());
+    assert_eq!(places, [15, 21, 42, 48, 70, 76]);
+    for at in places {
+        let mut sheet = right.clone();
+        sheet[at] += 2;
+        assert_eq!(check(&file, &sheet, &strings()), 13, "{at}");
+        sheet[at] = right[at] % 2;
+        assert_eq!(check(&file, &sheet, &strings()), 13, "{at}");
+    }
+}
+
+#[test]
+fn leave_out_cut_when_a_string_then_its_width_is_left() {
+    let mut line = strings().variables.remove(0);
+    leave_out_cut(&mut line[2..]);
     let left = [[0, 14, 0, 3, 0, 0], [5, 8, 0, 0, 3, 1], [6, 8, 0, 2, 1, 0], [7, 4, 1, 8, 0, 1]].concat();
-    let lines = |nodes: &[u32]| Lines {
-        types: vec![[&[0, 4], nodes].concat(), vec![1, 0]],
-        variables: vec![[&[0, 4], nodes].concat()],
-        completed: vec![[&[0, 8, 4], nodes].concat(), vec![1, 0, 0]],
-    };
-    assert_eq!(lines(&nodes).without_cut(), lines(&left));
+    assert_eq!(line, [&[0, 4], &left[..]].concat());
 }
 
 /// Type 1 is an alias of type 0; where `base` is 2 type 0 is one of type 1, too.

@@ -1,16 +1,20 @@
 //! `convert SEED COUNT`: for the directed pairs of shape and constant and for
 //! random ones, COUNT in all or somewhat more, what the proved static library
-//! answers and leaves in the lent words, against the Rust's value of that
-//! pair; then numbers that aren't there, outs that are too short and refused
+//! answers and leaves in the lent words, against the Rust's value of that pair:
+//! its own, the characters cut of a string left out, and with the characters cut
+//! (oracle/oracle/src/cut.rs); then numbers that aren't there, outs that are too short and refused
 //! files, against document 01. Fails on any difference.
 
 use std::env;
 use std::process::exit;
 
+use files::memory::STRING;
+use files::sheet::leave_out_cut;
 use files::verdict::verdict;
 use generate::damage::damage;
 use generate::pairs::Pairs;
 use generate::random::Random;
+use oracle::cut::counted;
 use oracle::outcome::{outcome, Outcome};
 
 extern "C" {
@@ -50,8 +54,14 @@ fn refused(number: u32) -> u64 {
     u64::from(number) << 32
 }
 
-/// A constant's value at a place, or none.
-type Value = Option<[u32; NODE_WORDS]>;
+type Node = [u32; NODE_WORDS];
+
+/// A constant's value at a place: the Rust's own, and with the characters cut.
+#[derive(Clone, Copy)]
+struct Value {
+    own: Node,
+    counted: Node,
+}
 
 /// What was compared.
 #[derive(Default)]
@@ -62,6 +72,7 @@ struct Counts {
     short: [u64; 2],
     /// Refusals 1 to 7.
     refused: [u64; 8],
+    cut_strings: u64,
 }
 
 impl Counts {
@@ -71,6 +82,7 @@ impl Counts {
 
     fn report(&self) {
         println!("{} pairs: by kind of shape, values and none", self.pairs());
+        println!("each value once as the Rust's own without the characters cut, once with these; strings cut: {}", self.cut_strings);
         for (kind, [values, none]) in self.pairs.iter().enumerate() {
             println!("{kind}: {values}, {none}");
         }
@@ -80,13 +92,18 @@ impl Counts {
     }
 }
 
-/// Calls the library with an out of `length` words, and ends the run unless
-/// it answers `answer` and leaves `node` at the front of out.
-fn compare(file: &[u32], shape: u32, constant: u32, length: usize, answer: u64, node: Value) {
-    let mut expected = LENT;
+/// An out with this node at its front.
+fn holding(node: Option<Node>) -> [u32; LENT.len()] {
+    let mut out = LENT;
     if let Some(node) = node {
-        expected[..NODE_WORDS].copy_from_slice(&node);
+        out[..NODE_WORDS].copy_from_slice(&node);
     }
+    out
+}
+
+/// Calls the library with an out of `length` words, and ends the run unless
+/// it answers `answer` and leaves the value at the front of out.
+fn compare(file: &[u32], shape: u32, constant: u32, length: usize, answer: u64, value: Option<Value>) {
     let mut out = LENT;
     let lent = &mut out[..length];
     // The library reads the file's words, writes words of out, and keeps nothing.
@@ -100,26 +117,35 @@ fn compare(file: &[u32], shape: u32, constant: u32, length: usize, answer: u64, 
             lent.len(),
         )
     };
-    if answered != answer || out != expected {
+    let mut without = out;
+    if value.is_some() {
+        leave_out_cut(&mut without[..NODE_WORDS]);
+    }
+    let is_own = without == holding(value.map(|value| value.own));
+    let expected = holding(value.map(|value| value.counted));
+    if answered != answer || !is_own || out != expected {
         eprintln!("shape {shape}, constant {constant}, out of {length}: {answered} {out:?}");
         eprintln!("and not {answer} {expected:?}; the file: {file:?}");
         exit(1);
     }
 }
 
-/// The Rust's value of each pair.
-fn values(pairs: &Pairs) -> Vec<Value> {
+/// The Rust's value of each pair, or none.
+fn values(pairs: &Pairs) -> Vec<Option<Value>> {
+    let scalar = |tree: Vec<Node>| {
+        assert_eq!(tree.len(), 1, "a scalar is one node");
+        tree[0]
+    };
     let mut values = Vec::new();
     for question in pairs.questions() {
         let Outcome::Answered(answers) = outcome(&question) else {
             eprintln!("the Rust does not answer {question:?}");
             exit(1);
         };
-        for tree in answers.variables {
-            values.push(tree.map(|nodes| {
-                assert_eq!(nodes.len(), 1, "a scalar is one node");
-                nodes[0]
-            }));
+        let counted = counted(&question, &answers).unwrap_or_else(|message| panic!("{message}: {question:?}"));
+        for (own, counted) in answers.variables.into_iter().zip(counted.variables) {
+            let [own, counted] = [own, counted].map(|tree| tree.map(scalar));
+            values.push(own.zip(counted).map(|(own, counted)| Value { own, counted }));
         }
     }
     values
@@ -136,6 +162,8 @@ fn compare_pairs(counts: &mut Counts, random: &mut Random, pairs: &Pairs) {
         let length = random.between(NODE_WORDS as u32, LENT.len() as u32) as usize;
         compare(&file, shape, constant, length, [1, 0][none], value);
         counts.pairs[kind][none] += 1;
+        let is_cut = |value: Value| value.counted[1] == STRING && value.counted[5] > 1;
+        counts.cut_strings += u64::from(value.is_some_and(is_cut));
         if random.percent(10) {
             let length = random.below(NODE_WORDS as u32) as usize;
             let answer = [refused(SHORT), 0][none];

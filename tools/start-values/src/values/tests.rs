@@ -64,6 +64,13 @@ fn value_when_a_string_then_quoted() {
 }
 
 #[test]
+fn value_when_characters_were_cut_then_how_many() {
+    assert_eq!(shown([0, 8, 0, 0, 3, 2]), "'A$'B' (1 cut)");
+    assert_eq!(shown([0, 8, 0, 0, 3, 7]), "\"A'B\" (3 cut)");
+    assert_eq!(shown([0, 8, 0, 0, 0, 131_072]), "'' (65536 cut)");
+}
+
+#[test]
 fn value_when_enumerated_then_its_name() {
     assert_eq!(shown([0, 9, 0, 2, 0, 0]), "green");
     assert_eq!(shown([0, 9, 0, 1, 3, 0]), "Colour#red");
