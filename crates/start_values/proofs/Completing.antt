@@ -18,7 +18,7 @@ use Rattle.laws.specs.Asks.{OnOk}
 use Rattle.laws.specs.Values.{Small}
 use Rattle.laws.specs.Sizes.{variable-small}
 use Rattle.laws.specs.Completes.{completion-in}
-use Rattle.start_values.specs.Counted.{Counted}
+use Rattle.codes.specs.Counted.{Counted}
 use Rattle.start_values.proofs.Numbers.{numbers}
 
 -- ---- what is answered of a variable's completed initializer
@@ -49,21 +49,5 @@ module _ (f : List ℕ) (v out kind n : ℕ) where
 pub answer-counted : (f : List ℕ) (v out lines room : ℕ) {a : CompletedAnswer} → completedSays a ≡ completedAnswer f v out lines room → Counted a
 unfolding completedSays
 answer-counted f v out lines room e = record { few = λ kind n q. answer-few f v out kind n lines room (ap completedSays (sym q) ∙ e) }
-
--- ---- `completed_code`: a law for each return
-module _ {a : CompletedAnswer} where
-  pub completed-kind : {kind n : ℕ} → a ≡ completing.Completed kind n → kind * 65536 + n ≡ valueCode (completedSays a)
-  unfolding valueCode packed completedSays
-  completed-kind e = rw e
-
-  pub completed-left : a ≡ completing.Left → 0 ≡ valueCode (completedSays a)
-  unfolding valueCode packed completedSays
-  completed-left e = rw e
-
-  pub completed-refused : {n : ℕ} → a ≡ completing.Refused n → {r : ℕ} → r ≡ n * 2 ^ 32 → r ≡ valueCode (completedSays a)
-  unfolding valueCode completedSays
-  completed-refused e h = rw e h
-
-pub ruleset completed-codes = (needs, completed-kind, completed-left, completed-refused)
 
 pub ruleset completed-numbers = (numbers, answer-counted)

@@ -1,84 +1,9 @@
 -- Answers as numbers. Assumes nothing.
-use mathlib.Core.Path.{_≡_, refl, sym, _∙_}
-use mathlib.Core.Bool.{Bool, true, false}
-use mathlib.Core.List.{List, []}
-use Prim.Native.Nat.{ℕ, _*_, _^_}
-use lib.Dec.{eqb}
+use mathlib.Core.Path.{_≡_}
+use Prim.Native.Nat.{ℕ}
 use borrow.Author.Needs.{needs}
-use borrow.Author.Tests.{eqb-true}
-use Rattle.definition.specs.declared.answers.Acceptance.{Acceptance}
-use Rattle.definition.specs.declared.answers.Acceptance.the-variants as acceptance
-use Rattle.definition.specs.declared.answers.WorkWords.{WorkWords}
-use Rattle.definition.specs.declared.answers.WorkWords.the-variants as workWords
-use Rattle.definition.specs.declared.answers.TreeAnswer.{TreeAnswer}
-use Rattle.definition.specs.declared.answers.TreeAnswer.the-variants as tree
-use Rattle.definition.specs.declared.answers.SheetAnswer.{SheetAnswer}
-use Rattle.definition.specs.declared.answers.SheetAnswer.the-variants as writing
-use Rattle.definition.specs.declared.answers.CheckAnswer.{CheckAnswer}
-use Rattle.definition.specs.declared.answers.CheckAnswer.the-variants as checking
-use Rattle.definition.specs.Base.{choose}
-use Rattle.definition.specs.Accept.{verdict}
-use Rattle.memory_definition.specs.declared.answer.MemoryAnswer.{MemoryAnswer}
-use Rattle.memory_definition.specs.declared.answer.MemoryAnswer.the-variants as memory
-use Rattle.memory_definition.specs.Answers.{memorySays, memoryCode}
-use Rattle.definition.specs.Answers.{Says, refuses, says, acceptanceSays, wordsSay, treeSays, sheetSays, checkSays, passCode, packed, valueCode, acceptAnswer}
-
--- ---- code.rt: a law for each return
-pub accepted-code : {a : Acceptance} → a ≡ acceptance.Accepted → 0 ≡ passCode (acceptanceSays a)
-unfolding passCode acceptanceSays
-accepted-code e = rw e
-
-pub refused-code : {a : Acceptance} {n : ℕ} → a ≡ acceptance.Refused n → n ≡ passCode (acceptanceSays a)
-unfolding passCode acceptanceSays
-refused-code e = rw e
-
-pub words-counted : {a : WorkWords} {n : ℕ} → a ≡ workWords.Words n → n ≡ valueCode (wordsSay a)
-unfolding valueCode packed wordsSay
-words-counted e = rw e
-
-pub words-refused : {a : WorkWords} {n : ℕ} → a ≡ workWords.Refused n → {r : ℕ} → r ≡ n * 2 ^ 32 → r ≡ valueCode (wordsSay a)
-unfolding valueCode wordsSay
-words-refused e h = rw e h
-
-pub tree-counted : {a : TreeAnswer} {n : ℕ} → a ≡ tree.Tree n → n ≡ valueCode (treeSays a)
-unfolding valueCode packed treeSays
-tree-counted e = rw e
-
-pub tree-none : {a : TreeAnswer} → a ≡ tree.None → 0 ≡ valueCode (treeSays a)
-unfolding valueCode packed treeSays
-tree-none e = rw e
-
-pub tree-refused : {a : TreeAnswer} {n : ℕ} → a ≡ tree.Refused n → {r : ℕ} → r ≡ n * 2 ^ 32 → r ≡ valueCode (treeSays a)
-unfolding valueCode treeSays
-tree-refused e h = rw e h
-
-pub sheet-counted : {a : SheetAnswer} {n : ℕ} → a ≡ writing.Written n → n ≡ valueCode (sheetSays a)
-unfolding valueCode packed sheetSays
-sheet-counted e = rw e
-
-pub sheet-refused : {a : SheetAnswer} {n : ℕ} → a ≡ writing.Refused n → {r : ℕ} → r ≡ n * 2 ^ 32 → r ≡ valueCode (sheetSays a)
-unfolding valueCode sheetSays
-sheet-refused e h = rw e h
-
-pub check-passes : {a : CheckAnswer} → a ≡ checking.Passes → 0 ≡ passCode (checkSays a)
-unfolding passCode checkSays
-check-passes e = rw e
-
-pub check-refused : {a : CheckAnswer} {n : ℕ} → a ≡ checking.Refused n → n ≡ passCode (checkSays a)
-unfolding passCode checkSays
-check-refused e = rw e
-
-pub memory-counted : {a : MemoryAnswer} {n : ℕ} → a ≡ memory.Written n → n ≡ memoryCode (memorySays a)
-unfolding memoryCode packed memorySays
-memory-counted e = rw e
-
-pub memory-none : {a : MemoryAnswer} → a ≡ memory.None → 4294967295 ≡ memoryCode (memorySays a)
-unfolding memoryCode memorySays
-memory-none e = rw e
-
-pub memory-refused : {a : MemoryAnswer} {n : ℕ} → a ≡ memory.Refused n → {r : ℕ} → r ≡ n * 2 ^ 32 → r ≡ memoryCode (memorySays a)
-unfolding memoryCode memorySays
-memory-refused e h = rw e h
+use Rattle.memory_definition.specs.Answers.{memoryCode}
+use Rattle.definition.specs.Answers.{Says, passCode, valueCode}
 
 -- ---- the number of an answer is that of what it says
 pub passes-so : {s t : Says} {r : ℕ} → r ≡ passCode s → s ≡ t → r ≡ passCode t
@@ -89,16 +14,5 @@ says-so e h = rw (← h) e
 
 pub memory-so : {s t : Says} {r : ℕ} → r ≡ memoryCode s → s ≡ t → r ≡ memoryCode t
 memory-so e h = rw (← h) e
-
--- ---- a file's refusal
-pub verdict-code : (f : List ℕ) {r : ℕ} → r ≡ passCode (acceptAnswer f) → r ≡ verdict f
-unfolding acceptAnswer passCode
-verdict-code f e = e ∙ go (eqb (verdict f) 0) refl
-  where
-    go : (b : Bool) → eqb (verdict f) 0 ≡ b → passCode (choose b (λ u. says 0 []) (λ u. refuses (verdict f))) ≡ verdict f
-    go true q = sym (eqb-true (verdict f) 0 q)
-    go false q = refl
-
-pub ruleset codes = (needs, accepted-code, refused-code, words-counted, words-refused, tree-counted, tree-none, tree-refused, sheet-counted, sheet-refused, check-passes, check-refused, memory-counted, memory-none, memory-refused)
 
 pub ruleset numbers = (needs, passes-so, says-so, memory-so)

@@ -1,91 +1,10 @@
-// A constant of a file as the node that it gives a place of one of the file's shapes.
+// A constant of a file as the node that it gives a place of one of the file's shapes, for C.
 ghost use mathlib.Core.Path.{_≡_};
 ghost use lib.ListN.{length};
-ghost use Rattle.definition.specs.Tree.{flatten, constantTree};
-ghost use Rattle.definition.specs.Ask.{ok};
-ghost use Rattle.definition.specs.Scalar.{asTree};
-ghost use Rattle.definition.specs.Answers.{over, treeSays, treeAnswer, valueCode};
-ghost use Rattle.scalar.specs.Node.{resultOf};
-ghost use Rattle.start_values.specs.Convert as Convert;
-ghost use Rattle.start_values.specs.Convert.{Both, valueAt, convertRefused, convertAnswer, convertOut};
-use crate::code::tree_code;
-use crate::wirkesu_accept;
-use definition::answers::TreeAnswer;
-use definition::layout::CONSTANTS;
-use definition::layout::NODE_WORDS;
-use definition::layout::SHAPES;
-use definition::records::Constant;
-use places::values::constant_value;
-use records::view::shape_at;
-use records::words::count;
-use records::words::find_sections;
-use scalar::node::Leaf;
-use scalar::node::node;
-
-fn value_at(file: &[u32], shape: u32, constant: u32) -> Leaf
-    requires { ⌜ Both (now file) shape constant ⌝ }
-    ensures { λ r. ⌜ asTree (resultOf r) ≡ valueAt (now (file .entry)) shape constant ⌝ }
-{
-    let source = find_sections(file);
-    let s = shape_at(file, &source, shape);
-    constant_value(file, &source, s, constant)
-}
-
-fn there(file: &[u32], shape: u32, constant: u32) -> bool
-    ensures { λ r. ⌜ r ≡ Convert.there (now (file .entry)) shape constant ⌝ }
-{
-    let source = find_sections(file);
-    if shape < count(file, &source, SHAPES) {
-        return constant < count(file, &source, CONSTANTS);
-    }
-    false
-}
-
-fn refused(file: &[u32], shape: u32, constant: u32) -> u32
-    ensures { λ r. ⌜ r ≡ convertRefused (now (file .entry)) shape constant ⌝ }
-{
-    let verdict = wirkesu_accept(file);
-    if verdict != 0 {
-        return verdict;
-    }
-    if there(file, shape, constant) {
-        return 0;
-    }
-    7
-}
-
-// Writes a constant's node where there is room.
-fn put(c: Constant, out: &mut [u32]) -> TreeAnswer
-    ensures says { λ r. ⌜ treeSays r ≡ treeAnswer (ok (constantTree c)) (length (now (out .entry))) ⌝ }
-    ensures wrote { λ _. ⌜ now (out .exit) ≡ over (flatten (constantTree c)) (now (out .entry)) ⌝ }
-{
-    if out.len() < NODE_WORDS {
-        return TreeAnswer::Refused(10);
-    }
-    let words = node(c);
-    out[0] = words[0];
-    out[1] = words[1];
-    out[2] = words[2];
-    out[3] = words[3];
-    out[4] = words[4];
-    out[5] = words[5];
-    TreeAnswer::Tree(1)
-}
-
-fn convert(file: &[u32], shape: u32, constant: u32, out: &mut [u32]) -> TreeAnswer
-    ensures says { λ r. ⌜ treeSays r ≡ convertAnswer (now (file .entry)) shape constant (length (now (out .entry))) ⌝ }
-    ensures wrote { λ _. ⌜ now (out .exit) ≡ convertOut (now (file .entry)) shape constant (now (out .entry)) ⌝ }
-{
-    let refusal = refused(file, shape, constant);
-    if refusal != 0 {
-        return TreeAnswer::Refused(refusal);
-    }
-    let leaf = value_at(file, shape, constant);
-    match leaf {
-        Leaf::Value(c) => put(c, out),
-        Leaf::None => TreeAnswer::None,
-    }
-}
+ghost use Rattle.definition.specs.Answers.{valueCode};
+ghost use Rattle.conversion.specs.Convert.{convertAnswer, convertOut};
+use codes::tree_code;
+use conversion::convert::convert;
 
 // 1 with the node's six words at the front of out, or 0 for none; a refusal in the high word. None and refusals leave out as it was.
 #[no_mangle]

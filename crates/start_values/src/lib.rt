@@ -1,11 +1,11 @@
 // The functions that C and Rust link, over numbers and slices. What each number says is `passCode` and `valueCode` of the definition (specs/Answers.antt).
 ghost use mathlib.Core.Path.{_≡_};
 ghost use Rattle.definition.specs.Answers.{acceptAnswer, wordsAnswer, lineWords, roomWords, passCode, valueCode};
-use crate::code::acceptance_code;
-use crate::code::words_code;
 use acceptance::accept::accept;
 use acceptance::work::line_words;
 use acceptance::work::room_words;
+use codes::acceptance_code;
+use codes::words_code;
 
 pub mod code;
 pub mod convert;

@@ -2,8 +2,8 @@
 ghost use mathlib.Core.Path.{_≡_};
 ghost use lib.ListN.{length};
 ghost use Rattle.definition.specs.Answers.{cleared, passCode, valueCode, writeAnswer, writeOut, passAnswer};
-use crate::code::check_code;
-use crate::code::sheet_code;
+use codes::check_code;
+use codes::sheet_code;
 use sheet::check::check_sheet;
 use writer::sheet::write_sheet;
 

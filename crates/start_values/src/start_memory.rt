@@ -3,8 +3,8 @@ ghost use mathlib.Core.Path.{_≡_};
 ghost use lib.ListN.{length};
 ghost use Rattle.definition.specs.Answers.{cleared, valueCode};
 ghost use Rattle.memory_definition.specs.Answers.{memoryCode, writeMemoryAnswer, writeMemoryOut, readMemoryAnswer, readMemoryNodes, readMemoryText};
-use crate::code::memory_code;
-use crate::code::tree_code;
+use codes::memory_code;
+use codes::tree_code;
 use memory::read::read_memory;
 use memory::write::write_memory;
 

@@ -3,8 +3,8 @@
 ghost use mathlib.Core.Path.{_≡_};
 ghost use lib.ListN.{length};
 ghost use Rattle.definition.specs.Answers.{cleared, valueCode, typeTreeAnswer, typeTreeOut, variableTreeAnswer, variableTreeOut, completedAnswer, completedOut};
-use crate::code::completed_code;
-use crate::code::tree_code;
+use codes::completed_code;
+use codes::tree_code;
 use resolver::completed::completed;
 use resolver::trees::type_tree;
 use resolver::trees::variable_tree;

@@ -1,0 +1,28 @@
+-- `convert::put` meets its contract. Assumes nothing.
+use native.Mathlib.Omega.{arith}
+use lib.ListN.{length-set}
+use borrow.Author.Needs.{needs}
+use Rattle.conversion.proofs.convert.Laws.{conversions}
+use Rattle.conversion.proofs.convert.put.Statement.{statement}
+use Rattle.conversion.proofs.convert.put.Tie as tie
+
+pub put-spec : {M : Type 1} → statement M
+put-spec =
+    tie.close
+    (tie.spec
+    (λ c. search conversions)
+    (λ c κs. search needs)
+    (λ c. search needs)
+    (λ c. search needs)
+    (λ c. search needs)
+    (λ c. simp length-set (omega arith))
+    (λ c. search needs)
+    (λ c. simp length-set (omega arith))
+    (λ c. search needs)
+    (λ c. simp length-set (omega arith))
+    (λ c. search needs)
+    (λ c. simp length-set (omega arith))
+    (λ c. search needs)
+    (λ c. search needs)
+    (λ c. simp length-set)
+    (λ c. search conversions))
