@@ -11,12 +11,12 @@ use crate::built::Built;
 use definition::layout::NODE_WORDS;
 use shapes::arrays::elements;
 use tree::extent::Extent;
-use tree::grow::Grown;
-use tree::grow::repeat;
 use tree::node::write_array;
 use tree::part::Value;
 use tree::part::value_at;
 use tree::words::shift;
+use tree_changes::grow::Grown;
+use tree_changes::grow::repeat;
 
 // So many values, with so many nodes in all.
 pub struct Values {

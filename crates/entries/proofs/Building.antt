@@ -82,7 +82,7 @@ use Rattle.tree.specs.declared.part.Found as parts-found
 use Rattle.tree.specs.declared.part.Found.the-variants as found
 use Rattle.tree.specs.Part.{findOf}
 use Rattle.tree.proofs.Fields.{goods-parted}
-use Rattle.tree.proofs.Standing.{part-stands}
+use Rattle.tree_changes.proofs.Splicing.{part-stands}
 use Rattle.laws.specs.Whole.{nodesIn-join, flatten-length}
 
 -- ---- `array`

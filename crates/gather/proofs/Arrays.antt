@@ -21,16 +21,17 @@ use Rattle.laws.specs.Steps.{peek-done, peek-give, peek-ok, peek-none, peek-lar
 use Rattle.laws.specs.Whole.{flattenAll-length, flattenAll-join, goods-filled, nodes-some, nodes-headed}
 use Rattle.tree.specs.declared.extent.Extent.{Extent}
 use Rattle.tree.specs.declared.extent.Extent.the-variants as extent
-use Rattle.tree.specs.declared.grow.Span.{Span}
-use Rattle.tree.specs.declared.grow.Grown.{Grown}
-use Rattle.tree.specs.declared.grow.Grown.the-variants as grown
+use Rattle.tree_changes.specs.declared.grow.Span.{Span}
+use Rattle.tree_changes.specs.declared.grow.Grown.{Grown}
+use Rattle.tree_changes.specs.declared.grow.Grown.the-variants as grown
 use Rattle.tree.specs.Words.{Stand, WroteNode}
 use Rattle.tree.specs.Node.{headWords}
 use Rattle.tree.specs.Extent.{afterOf}
-use Rattle.tree.specs.Grow.{inOrder, tail, moved, replacedOf, Spliced, Replaced}
+use Rattle.tree_changes.specs.Grow.{inOrder, tail, moved, replacedOf, Spliced, Replaced}
 use Rattle.tree.proofs.Fields.{Rest, rest-there}
 use Rattle.tree.proofs.Stands.{stand-rest, rest-stand}
-use Rattle.tree.proofs.Standing.{wrote-so-is, headed-there, spliced-size, spliced-words, many-filled}
+use Rattle.tree.proofs.Standing.{wrote-so-is, headed-there}
+use Rattle.tree_changes.proofs.Splicing.{spliced-size, spliced-words, many-filled}
 use Rattle.build.specs.declared.built.Built.{Built}
 use Rattle.build.specs.declared.built.Built.the-variants as built
 use Rattle.gather.specs.declared.answers.Listed.{Listed}

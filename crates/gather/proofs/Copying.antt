@@ -29,17 +29,17 @@ use Rattle.tree.specs.declared.extent.Extent.{Extent}
 use Rattle.tree.specs.declared.extent.Extent.the-variants as extent
 use Rattle.tree.specs.declared.part.Value.{Value}
 use Rattle.tree.specs.declared.part.Value.the-variants as value
-use Rattle.tree.specs.declared.grow.Grown.{Grown}
-use Rattle.tree.specs.declared.grow.Grown.the-variants as grown
-use Rattle.tree.specs.declared.limit.Added.{Added}
-use Rattle.tree.specs.declared.limit.Added.the-variants as more
+use Rattle.tree_changes.specs.declared.grow.Grown.{Grown}
+use Rattle.tree_changes.specs.declared.grow.Grown.the-variants as grown
+use Rattle.tree_changes.specs.declared.limit.Added.{Added}
+use Rattle.tree_changes.specs.declared.limit.Added.the-variants as more
 use Rattle.tree.specs.Words.{Stand, WroteNode, WroteShift, movable, apart, rept}
 use Rattle.tree.specs.Node.{headWords}
 use Rattle.tree.specs.Extent.{afterOf, wholeOf}
 use Rattle.tree.specs.Part.{valueAt, valueIs}
-use Rattle.tree.specs.Grow.{Grew, Repeated}
-use Rattle.tree.specs.Limit.{addedOf, copiedOf, onFits}
-use Rattle.tree.proofs.Limits.{count-fits, size-fits, added-counts, added-is, copied-is, copied-small, outcomeOf}
+use Rattle.tree_changes.specs.Grow.{Grew, Repeated}
+use Rattle.tree_changes.specs.Limit.{addedOf, copiedOf, onFits}
+use Rattle.tree_changes.proofs.Limits.{count-fits, size-fits, added-counts, added-is, copied-is, copied-small, outcomeOf}
 use Rattle.tree.proofs.Trees.{whole-there}
 use Rattle.tree.proofs.Fields.{value-there, kind-structure, parts-stand, one-stands, Rest, rest-there}
 use Rattle.tree.proofs.Standing.{wrote-so-is, copied-there, headed-there, repeated-there}

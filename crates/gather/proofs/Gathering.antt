@@ -18,11 +18,11 @@ use Rattle.definition.specs.Peek.{Peek, got, wants, peek}
 use Rattle.laws.specs.Gathers.{Gathered}
 use Rattle.laws.specs.Steps.{peek-done, peek-give, peek-nothing, peek-ok, peek-none, peek-large, peek-wanted}
 use Rattle.laws.specs.Whole.{Goods, flattenAll-join, nodesIn-join, many-join, goods-join, many-one}
-use Rattle.tree.specs.declared.limit.Added.{Added}
-use Rattle.tree.specs.declared.limit.Added.the-variants as more
+use Rattle.tree_changes.specs.declared.limit.Added.{Added}
+use Rattle.tree_changes.specs.declared.limit.Added.the-variants as more
 use Rattle.tree.specs.Words.{Stand}
-use Rattle.tree.specs.Limit.{addedOf}
-use Rattle.tree.proofs.Limits.{added-is, outcomeOf}
+use Rattle.tree_changes.specs.Limit.{addedOf}
+use Rattle.tree_changes.proofs.Limits.{added-is, outcomeOf}
 use Rattle.tree.proofs.Stands.{stand-append, stand-kept, rest-stand}
 use Rattle.gather.proofs.answers.Listed.{the-type}
 use Rattle.gather.specs.declared.answers.Listed.{Listed}

@@ -29,14 +29,14 @@ use Rattle.places.specs.Found.{placeIn}
 use Rattle.places.specs.Inside.{PlaceIn, field-found}
 use Rattle.tree.specs.declared.part.Found as parts
 use Rattle.tree.specs.declared.part.Found.the-variants as found
-use Rattle.tree.specs.declared.grow.Span.{Span}
-use Rattle.tree.specs.declared.grow.Grown.{Grown}
-use Rattle.tree.specs.declared.grow.Grown.the-variants as grown
+use Rattle.tree_changes.specs.declared.grow.Span.{Span}
+use Rattle.tree_changes.specs.declared.grow.Grown.{Grown}
+use Rattle.tree_changes.specs.declared.grow.Grown.the-variants as grown
 use Rattle.tree.specs.Words.{Stand}
 use Rattle.tree.specs.Part.{place, findOf}
-use Rattle.tree.specs.Grow.{inOrder, moved, Spliced, Assigned, renamed}
+use Rattle.tree_changes.specs.Grow.{inOrder, moved, Spliced, Assigned, renamed}
 use Rattle.tree.proofs.Fields.{Named, place-named}
-use Rattle.tree.proofs.Standing.{assigned-limit, assigned-there}
+use Rattle.tree_changes.proofs.Splicing.{assigned-limit, assigned-there}
 use Rattle.build.specs.declared.built.Built.{Built}
 use Rattle.build.specs.declared.built.Built.the-variants as built
 use Rattle.gather.specs.declared.copies.Target.the-variants as target

@@ -10,10 +10,10 @@ use Rattle.definition.specs.Resolve.{Memo}
 use Rattle.definition.specs.Peek.{got, peek}
 use Rattle.laws.specs.Whole.{Goods}
 use Rattle.tree.specs.Words.{Stand}
-use Rattle.tree.specs.declared.limit.Added.{Added}
-use Rattle.tree.specs.declared.limit.Added.the-variants as more
-use Rattle.tree.specs.Limit.{addedOf}
-use Rattle.tree.proofs.Limits.{added-counts, outcomeOf}
+use Rattle.tree_changes.specs.declared.limit.Added.{Added}
+use Rattle.tree_changes.specs.declared.limit.Added.the-variants as more
+use Rattle.tree_changes.specs.Limit.{addedOf}
+use Rattle.tree_changes.proofs.Limits.{added-counts, outcomeOf}
 use Rattle.build.specs.declared.built.Built.{Built}
 use Rattle.build.specs.declared.built.Built.the-variants as built
 use Rattle.gather.specs.declared.answers.Listed.{Listed}

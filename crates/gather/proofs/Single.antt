@@ -38,11 +38,11 @@ use Rattle.scalar.specs.declared.node.Leaf.the-variants as leafs
 use Rattle.scalar.specs.Node.{resultOf}
 use Rattle.tree.specs.declared.extent.Extent.{Extent}
 use Rattle.tree.specs.declared.extent.Extent.the-variants as extent
-use Rattle.tree.specs.declared.limit.Added.{Added}
-use Rattle.tree.specs.declared.limit.Added.the-variants as more
+use Rattle.tree_changes.specs.declared.limit.Added.{Added}
+use Rattle.tree_changes.specs.declared.limit.Added.the-variants as more
 use Rattle.tree.specs.Words.{Wrote, WroteNode}
-use Rattle.tree.specs.Limit.{addedOf}
-use Rattle.tree.proofs.Limits.{count-fits, size-fits, added-is}
+use Rattle.tree_changes.specs.Limit.{addedOf}
+use Rattle.tree_changes.proofs.Limits.{count-fits, size-fits, added-is}
 use Rattle.tree.proofs.Standing.{wrote-so-is, leaf-there}
 use Rattle.build.specs.declared.built.Built.{Built}
 use Rattle.build.specs.declared.built.Built.the-variants as built

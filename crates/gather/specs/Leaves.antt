@@ -18,8 +18,8 @@ use Rattle.laws.specs.Asks.{OnOk}
 use Rattle.laws.specs.Values.{Small}
 use Rattle.scalar.specs.declared.node.Leaf.{Leaf}
 use Rattle.scalar.specs.Node.{resultOf}
-use Rattle.tree.specs.declared.limit.Added.{Added}
-use Rattle.tree.specs.declared.limit.Added.the-variants as more
+use Rattle.tree_changes.specs.declared.limit.Added.{Added}
+use Rattle.tree_changes.specs.declared.limit.Added.the-variants as more
 use Rattle.build.specs.declared.built.Built.{Built}
 use Rattle.gather.specs.declared.answers.Listed.{Listed}
 use Rattle.gather.specs.declared.answers.Listed.the-variants as listed

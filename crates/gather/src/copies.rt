@@ -19,15 +19,6 @@ use records::words::word;
 use tree::extent::Extent;
 use tree::extent::after;
 use tree::extent::whole;
-use tree::grow::Grown;
-use tree::grow::Span;
-use tree::grow::assign;
-use tree::grow::repeat;
-use tree::grow::replace;
-use tree::limit::Added;
-use tree::limit::may_add;
-use tree::limit::may_copy;
-use tree::limit::may_gather;
 use tree::node::write_array;
 use tree::node::write_structure;
 use tree::part::Found;
@@ -36,6 +27,15 @@ use tree::part::find;
 use tree::part::value_at;
 use tree::words::fits;
 use tree::words::shift;
+use tree_changes::grow::Grown;
+use tree_changes::grow::Span;
+use tree_changes::grow::assign;
+use tree_changes::grow::repeat;
+use tree_changes::grow::replace;
+use tree_changes::limit::Added;
+use tree_changes::limit::may_add;
+use tree_changes::limit::may_copy;
+use tree_changes::limit::may_gather;
 
 // Copies the words between two places.
 fn copy_words(room: &mut [u32], from: usize, to: usize, at: usize) -> Extent

@@ -9,7 +9,7 @@ ghost use Rattle.laws.specs.Accepted.{Accepted};
 ghost use Rattle.records.specs.Starts.{StartsOf};
 ghost use Rattle.scalar.specs.Node.{resultOf};
 ghost use Rattle.places.specs.Inside.{ShapeIn, PlaceIn};
-ghost use Rattle.tree.specs.Limit.{addedOf};
+ghost use Rattle.tree_changes.specs.Limit.{addedOf};
 ghost use Rattle.gather.specs.declared.answers.Listed.the-variants.{Ends};
 ghost use Rattle.gather.specs.Leaves.{simpleOf, onAdded, Puts, Pushes, PushesTree, PushesSimple, PutsSimple};
 use crate::answers::Filling;
@@ -25,9 +25,9 @@ use places::values::enumerated_value;
 use records::view::entry_at;
 use scalar::node::Leaf;
 use tree::extent::Extent;
-use tree::limit::Added;
-use tree::limit::may_add;
 use tree::node::write_leaf;
+use tree_changes::limit::Added;
+use tree_changes::limit::may_add;
 
 // What a constant, an enumerated value or an expression gives a place.
 pub fn simple(file: &[u32], source: &[usize], shape: Shape, e: u32) -> Leaf

@@ -11,10 +11,10 @@ use crate::range::holds;
 use crate::range::negative;
 use crate::range::size;
 use crate::range::within;
-use crate::round::rounded;
 use crate::string::cut_string;
 use definition::records::Constant;
 use definition::records::Shape;
+use rounding::rounded;
 
 fn kept(test: bool, c: Constant) -> Leaf
     ensures { λ r. ⌜ resultOf r ≡ scalar.kept test c ⌝ }

@@ -2,10 +2,9 @@
 use mathlib.Core.Path.{_≡_, refl, ap, sym, _∙_}
 use mathlib.Core.Bool.{Bool, true, false}
 use mathlib.Core.List.{List, [], _∷_}
-use Prim.Native.Nat.{ℕ, _+_, _*_, _^_, _≤_}
+use Prim.Native.Nat.{ℕ, _*_, _≤_}
 use native.Mathlib.Omega.{arith}
 use lib.Dec.{eqb, leb}
-use borrow.Author.Needs.{needs}
 use Rattle.definition.specs.declared.answers.CompletedAnswer.{CompletedAnswer}
 use Rattle.definition.specs.declared.answers.CompletedAnswer.the-variants as completing
 use Rattle.definition.specs.Base.{pick, choose}
@@ -13,7 +12,7 @@ use Rattle.definition.specs.Tree.{Tree, nodes, nodeWords, mostNodes}
 use Rattle.definition.specs.Ask.{ok, none, large, Outcome}
 use Rattle.definition.specs.Starting.{variableOutcome}
 use Rattle.definition.specs.Complete.{Completed, completed, left, completion}
-use Rattle.definition.specs.Answers.{refuses, says, completedSays, packed, valueCode, variableRefused, slotAnswer, completionAnswer, completedAnswer}
+use Rattle.definition.specs.Answers.{refuses, says, completedSays, variableRefused, slotAnswer, completionAnswer, completedAnswer}
 use Rattle.laws.specs.Asks.{OnOk}
 use Rattle.laws.specs.Values.{Small}
 use Rattle.laws.specs.Sizes.{variable-small}

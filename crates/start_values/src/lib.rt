@@ -7,7 +7,6 @@ use acceptance::work::room_words;
 use codes::acceptance_code;
 use codes::words_code;
 
-pub mod code;
 pub mod convert;
 pub mod sheets;
 pub mod start_memory;

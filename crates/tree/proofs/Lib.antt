@@ -6,9 +6,5 @@ pub mod Writes
 pub mod Moves
 pub mod Finds
 pub mod Fields
-pub mod Grows
-pub mod Limits
 pub mod Repeats
-pub mod Splices
-pub mod Closes
 pub mod Standing

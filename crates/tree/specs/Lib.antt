@@ -2,5 +2,3 @@ pub mod Extent
 pub mod Words
 pub mod Node
 pub mod Part
-pub mod Limit
-pub mod Grow

@@ -72,7 +72,7 @@ fn is_movable(length: usize, from: usize, count: usize, to: usize) -> bool
     }
 }
 
-pub(crate) fn move_words(out: &mut [u32], from: usize, count: usize, to: usize)
+pub fn move_words(out: &mut [u32], from: usize, count: usize, to: usize)
     requires { ⌜ Moves (length (now out)) from count to ⌝ }
     ensures { λ _. ⌜ now (out .exit) ≡ paste (now (out .entry)) to (drop from (now (out .entry))) count ⌝ }
 {
@@ -107,7 +107,7 @@ pub fn nodes_fit(length: usize, at: usize, nodes: usize) -> bool
 }
 
 // The words at a place, so many times one behind the other.
-pub(crate) fn copies(out: &mut [u32], at: usize, count: usize, times: usize)
+pub fn copies(out: &mut [u32], at: usize, count: usize, times: usize)
     requires { ⌜ at + count * times ≤ length (now out) ⌝ }
     ensures { λ _. ⌜ now (out .exit) ≡ paste (now (out .entry)) at (rept times (take count (drop at (now (out .entry))))) (count * times) ⌝ }
 {

@@ -8,10 +8,10 @@ use borrow.Author.Needs.{needs}
 use Rattle.definition.specs.Base.{pick}
 use Rattle.tree.specs.declared.extent.Extent.{Extent}
 use Rattle.tree.specs.declared.extent.Extent.the-variants as extent
-use Rattle.tree.specs.declared.grow.Span.{Span}
-use Rattle.tree.specs.declared.grow.Grown.{Grown}
-use Rattle.tree.specs.declared.grow.Grown.the-variants as grown
-use Rattle.tree.specs.Grow.{Replaced}
+use Rattle.tree_changes.specs.declared.grow.Span.{Span}
+use Rattle.tree_changes.specs.declared.grow.Grown.{Grown}
+use Rattle.tree_changes.specs.declared.grow.Grown.the-variants as grown
+use Rattle.tree_changes.specs.Grow.{Replaced}
 use Rattle.tree.specs.Words.{WroteCopy}
 use Rattle.tree_c.specs.Ends.{endOf, fits, ReplacedTo, CopiedTo}
 

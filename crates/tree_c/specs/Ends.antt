@@ -7,10 +7,10 @@ use lib.Dec.{leb}
 use lib.ListN.{length, drop}
 use lib.Seq.{paste}
 use Rattle.definition.specs.Base.{pick}
-use Rattle.tree.specs.declared.grow.Span.{Span}
-use Rattle.tree.specs.declared.grow.Grown.{Grown}
-use Rattle.tree.specs.declared.grow.Grown.the-variants.{Ends, TooLarge, Not}
-use Rattle.tree.specs.Grow.{replacedOf, Splices}
+use Rattle.tree_changes.specs.declared.grow.Span.{Span}
+use Rattle.tree_changes.specs.declared.grow.Grown.{Grown}
+use Rattle.tree_changes.specs.declared.grow.Grown.the-variants.{Ends, TooLarge, Not}
+use Rattle.tree_changes.specs.Grow.{replacedOf, Splices}
 
 abbrev pub span : ℕ → ℕ → Span
 span begin end = record { begin = begin; end = end }

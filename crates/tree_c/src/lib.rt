@@ -1,10 +1,10 @@
 // What tools/measure_tree links: a part that is replaced, and a plain copy to measure it against.
 ghost use Rattle.tree_c.specs.Ends.{span, ReplacedTo, CopiedTo};
 use tree::extent::Extent;
-use tree::grow;
-use tree::grow::Grown;
-use tree::grow::Span;
 use tree::words;
+use tree_changes::grow;
+use tree_changes::grow::Grown;
+use tree_changes::grow::Span;
 
 // The tree's new end, or 0 where nothing was written.
 #[no_mangle]

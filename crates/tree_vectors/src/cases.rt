@@ -3,13 +3,13 @@ ghost use mathlib.Core.Path.{_≡_};
 ghost use lib.ListN.{length};
 use crate::lines;
 use tree::extent;
-use tree::grow;
-use tree::grow::Grown;
-use tree::grow::Span;
-use tree::limit;
 use tree::node;
 use tree::part;
 use tree::words;
+use tree_changes::grow;
+use tree_changes::grow::Grown;
+use tree_changes::grow::Span;
+use tree_changes::limit;
 
 // The numbers behind the function's and the words' own.
 pub struct Case {

@@ -1,11 +1,11 @@
 // A case's answer on its line.
 use tree::extent::Extent;
-use tree::grow::Grown;
-use tree::limit::Added;
 use tree::node::Node;
 use tree::node::NodeAt;
 use tree::part::Found;
 use tree::part::Value;
+use tree_changes::grow::Grown;
+use tree_changes::limit::Added;
 
 pub fn number(n: u64) -> bool {
     io::print_decimal(1, n);

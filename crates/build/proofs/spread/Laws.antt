@@ -24,14 +24,14 @@ use Rattle.definition.specs.Peek.{got, peek}
 use Rattle.laws.specs.Whole.{Good, nodes-some, nodes-parts, nodesIn-one, nodesIn-times, many-one, many-times, flatten-length, flattenAll-one}
 use Rattle.tree.proofs.part.Value.{the-type}
 use Rattle.tree.specs.declared.extent.Extent.{Extent}
-use Rattle.tree.specs.declared.grow.Grown.{Grown}
-use Rattle.tree.specs.declared.grow.Grown.the-variants as grown
+use Rattle.tree_changes.specs.declared.grow.Grown.{Grown}
+use Rattle.tree_changes.specs.declared.grow.Grown.the-variants as grown
 use Rattle.tree.specs.declared.part.Value.{Value}
 use Rattle.tree.specs.declared.part.Value.the-variants as value
 use Rattle.tree.specs.Words.{Stand, Wrote, WroteNode, WroteShift, movable, rept}
 use Rattle.tree.specs.Node.{headWords}
 use Rattle.tree.specs.Part.{valueAt, valueIs}
-use Rattle.tree.specs.Grow.{Grew, Repeated}
+use Rattle.tree_changes.specs.Grow.{Grew, Repeated}
 use Rattle.tree.proofs.Fields.{parts-stand, stands-long, value-there, kind-array}
 use Rattle.tree.proofs.Standing.{copied-there, repeated-there, headed-there}
 use Rattle.build.specs.declared.built.Built.{Built}
