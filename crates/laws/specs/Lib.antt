@@ -33,6 +33,7 @@ pub mod Meaning
 pub mod Accepted
 pub mod Pointed
 pub mod Strings
+pub mod Bits
 pub mod Used
 pub mod Falling
 pub mod Completes

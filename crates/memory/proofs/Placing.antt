@@ -32,7 +32,7 @@ use Rattle.places.specs.Inside.{PlaceIn, variable-found}
 use Rattle.memory_definition.specs.Cells.{placeOr, cells, variableCells}
 use Rattle.memory_laws.specs.InWords.{cellsFrom}
 use Rattle.memory_laws.specs.CellShapes.{variable-shaped}
-use Rattle.memory_nodes.specs.Sized.{SizedForms, sized-forms}
+use Rattle.memory_laws.specs.Placed.{PlacedAll, placed-all}
 use Rattle.memory_layout.specs.Laid.{Whole}
 use Rattle.memory_layout.specs.Laid as layout
 use Rattle.memory.specs.Trees.{TreeIn, InWords, Laid}
@@ -69,7 +69,7 @@ module _ {f : List ℕ} {v : ℕ} {room : List ℕ} {many : ℕ} (h : TreeIn f v
         nodes = omega (arith, h .stands .fits, h .counted);
         places = omega (arith, small .few, h .counted);
         few = omega (arith, small .few, h .counted);
-        sized = subst (SizedForms f) (sym (is (h .tree) (h .is))) (sized-forms f a (variableCells f v (h .tree)) (variable-shaped f a v m (h .tree)));
+        placed = record { all = subst (PlacedAll f) (sym (is (h .tree) (h .is))) (placed-all f a (variableCells f v (h .tree)) (variable-shaped f a v m (h .tree))) };
       }
 
   pub standing : {n : ℕ} → 12288 ≤ n → Whole room 0 n

@@ -43,7 +43,7 @@ cells-many room shapes at (suc n) = ap suc (cells-many room shapes (at + 6) n)
 
 -- ---- `read_cells` and `read_held`
 pub words-of : {f room shapes : List ℕ} {n : ℕ} → InWords f room shapes n → Words f room shapes n
-words-of i = (i .sized, i .nodes, i .places)
+words-of i = (i .placed, i .nodes, i .places)
 
 module _ (f room shapes : List ℕ) (n : ℕ) (bs : List ℕ) where
   six : length (nodesAll f 0 (cellsFrom room shapes 0 n) bs) ≡ n * 6

@@ -16,7 +16,7 @@ use Rattle.memory_definition.specs.Forms.{fileCharacters}
 use Rattle.memory_definition.specs.Memory.{heldAll, narrowAll, textAll, nodesAll}
 use Rattle.memory_definition.specs.Answers.{memorySays, cellsAnswer, cellsOut, memoryOf, memoryIn, readAnswer, readOver, treeReadOf, nodesReadOf, textReadOf}
 use Rattle.memory_laws.specs.InWords.{cellsFrom}
-use Rattle.memory_nodes.specs.Sized.{SizedForms}
+use Rattle.memory_laws.specs.Placed.{PlacedIn}
 
 -- the variable's tree stands at the front of the room, so many nodes
 pub record TreeIn (f : List ℕ) (v : ℕ) (room : List ℕ) (many : ℕ) : Type 0 where
@@ -25,12 +25,12 @@ pub record TreeIn (f : List ℕ) (v : ℕ) (room : List ℕ) (many : ℕ) : Type
   pub counted : many ≡ nodes tree
   pub stands : Stand room 0 (flatten tree) (6 * nodes tree)
 
--- so many nodes and the shapes of their places stand in words, and their forms have the sizes of an accepted file
+-- so many nodes and the shapes of their places, in an accepted file, stand in words
 pub record InWords (f tree shapes : List ℕ) (many : ℕ) : Type 0 where
   pub nodes : many * 6 ≤ length tree
   pub places : many * 6 ≤ length shapes
   pub few : many ≤ 2048
-  pub sized : SizedForms f (cellsFrom tree shapes 0 many)
+  pub placed : PlacedIn f tree shapes 0 many
 
 -- the shapes of its nodes' places stand in words beside it
 pub record Laid (f : List ℕ) (v : ℕ) (room shapes : List ℕ) (many : ℕ) : Type 0 where

@@ -19,10 +19,14 @@ use Rattle.memory_definition.specs.Cells.{Cell}
 use Rattle.memory_definition.specs.Forms.{formAt, formOf, held, narrow, fileCharacters, sizeAs, bytes}
 use Rattle.memory_definition.specs.Memory.{heldAll, narrowAll, bytesAll, size, sizeAll}
 use Rattle.memory_laws.specs.InWords.{nodeIn, shapeIn, cellIn, cellsFrom}
+use Rattle.memory_laws.specs.Placed.{Placed, PlacedIn, placed-first, placed-next}
 use Rattle.memory_laws.specs.Lengths.{bytes-long, bytes-all-long}
 use Rattle.memory_forms.specs.Cell.{cellOf}
 
 -- ---- `held_all`, `narrow_all`
+pub shape-placed : {f t s : List ℕ} {at left : ℕ} → PlacedIn f t s at left → 0 < left → {sh : Shape} → sh ≡ shapeIn s at → Placed f sh
+shape-placed p h e = rw e (placed-first p h)
+
 module _ (f t s : List ℕ) where
   pub held-starts : (n : ℕ) → Comes (λ k at. heldAll f (cellsFrom t s at k)) n 0 (heldAll f (cellsFrom t s 0 n))
   held-starts n = record { same = refl }
@@ -142,7 +146,7 @@ module _ (f t s : List ℕ) (nodes : ℕ) where
               holds = held-both .1;
             }
 
-pub ruleset testing = (needs, not-true, not-false, goes-on, stops, ends, held-starts, narrow-starts, held-ends, narrow-ends, held-stops, held-goes, narrow-stops, narrow-goes)
+pub ruleset testing = (needs, not-true, not-false, goes-on, stops, ends, shape-placed, placed-next, held-starts, narrow-starts, held-ends, narrow-ends, held-stops, held-goes, narrow-stops, narrow-goes)
 
 pub ruleset summing = (needs, none-summed, all-summed, sum-fits, one-summed)
 

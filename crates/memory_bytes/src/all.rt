@@ -8,6 +8,7 @@ ghost use Rattle.records.specs.Starts.{StartsOf};
 ghost use Rattle.memory_definition.specs.Forms.{fileCharacters};
 ghost use Rattle.memory_definition.specs.Memory.{heldAll, narrowAll, sizeAll, bytesAll};
 ghost use Rattle.memory_laws.specs.InWords.{cellsFrom};
+ghost use Rattle.memory_laws.specs.Placed.{PlacedIn};
 use crate::cell::put_cell;
 use crate::narrow::narrow;
 use definition::layout::NODE_WORDS;
@@ -19,7 +20,7 @@ use memory_forms::words::shape_in;
 
 // Each node is held by the shape of its place: else 14.
 pub fn held_all(file: &[u32], source: &[usize], tree: &[u32], shapes: &[u32], nodes: usize) -> bool
-    requires { ⌜ StartsOf (now file) (now source) × (nodes * 6 ≤ length (now tree)) × (nodes * 6 ≤ length (now shapes)) ⌝ }
+    requires { ⌜ StartsOf (now file) (now source) × PlacedIn (now file) (now tree) (now shapes) 0 nodes × (nodes * 6 ≤ length (now tree)) × (nodes * 6 ≤ length (now shapes)) ⌝ }
     ensures { λ r. ⌜ r ≡ heldAll (now (file .entry)) (cellsFrom (now (tree .entry)) (now (shapes .entry)) 0 nodes) ⌝ }
 {
     let mut at = 0;

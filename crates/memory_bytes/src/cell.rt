@@ -21,8 +21,8 @@ use memory_definition::form::Form;
 use memory_forms::form::form_of;
 use memory_forms::held::constant_on;
 use memory_forms::members::member_place;
+use ranges::range;
 use reals::narrow::narrow;
-use scalar::range;
 use tree::node::Node;
 
 // A number of so many bits, in two's complement.

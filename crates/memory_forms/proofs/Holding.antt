@@ -38,6 +38,7 @@ use Rattle.memory_definition.specs.declared.form.Form.the-variants as form
 use Rattle.memory_definition.specs.Cells.{entriesUpTo, entriesOf}
 use Rattle.memory_definition.specs.Forms.{formAt, formOf, constantOn, sameConstant, isSame, unchanged, onBase, fitsUpTo, heldConstant, heldHead, memberLink, heldAs, held}
 use Rattle.memory_laws.specs.Fits.{cutTo}
+use Rattle.memory_laws.specs.Placed.{Placed, placed-bits, placed-base}
 use Rattle.memory_forms.specs.Cell.{nodeOf, cellOf}
 use Rattle.memory_forms.proofs.Forming.{unranged}
 
@@ -156,6 +157,9 @@ module _ (f : List ℕ) (s : Shape) (c : Constant) {l : Leaf} (is : resultOf l �
   no-value e = rw (← is, e)
 
 -- ---- `fits_up_to`
+pub base-placed : {f : List ℕ} {s : Shape} → Placed f s → {base low high : ℕ} → s ≡ shape.Subrange base low high → {t : Shape} → t ≡ shapeAt f base → Placed f t
+base-placed p q g = rw g (placed-base p q)
+
 no-base : (s : Shape) (g : ℕ → Bool) → OneOf unranged (tagOf shapeTypes.the-type s) → true ≡ onBase s g
 no-base shape.Bool g h = refl
 no-base (shape.Int bits) g h = refl
@@ -343,4 +347,4 @@ module _ (f : List ℕ) (s : Shape) (n : Node) {x : Form} (is : x ≡ formAt f s
 
 pub ruleset naming = (needs, none-passed, none-named, named-here, one-passed)
 
-pub ruleset holding = (needs, not-true, not-false, goes-on, stops, ends, string-word, other-word, constant-made, no-length, too-long, whole-string, as-string, nothing-counted, same-value, no-value, fits-starts, fits-ends, changed, fits-whole, fits-base, not-plain, plain-fits, no-real, a-real, no-array, an-array, no-head, structure-head, array-head, block-head, no-member, a-member, held-null, held-nothing, held-as-head, held-as-real, held-as-member, held-as-constant)
+pub ruleset holding = (needs, not-true, not-false, goes-on, stops, ends, string-word, other-word, constant-made, no-length, too-long, whole-string, as-string, nothing-counted, same-value, no-value, placed-bits, base-placed, fits-starts, fits-ends, changed, fits-whole, fits-base, not-plain, plain-fits, no-real, a-real, no-array, an-array, no-head, structure-head, array-head, block-head, no-member, a-member, held-null, held-nothing, held-as-head, held-as-real, held-as-member, held-as-constant)

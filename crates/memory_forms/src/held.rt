@@ -6,11 +6,13 @@ ghost use Rattle.definition.specs.declared.records.Shape.the-variants as shape;
 ghost use Rattle.definition.specs.Layout.{members};
 ghost use Rattle.definition.specs.Places.{firstNamed};
 ghost use Rattle.definition.specs.Scalar.{uncutWord};
+ghost use Rattle.laws.specs.Bits.{Bits};
 ghost use Rattle.records.specs.Starts.{StartsOf};
 ghost use Rattle.memory_definition.specs.declared.form.Form.the-variants as form;
 ghost use Rattle.memory_definition.specs.Cells as Cells;
 ghost use Rattle.memory_definition.specs.Forms as Forms;
 ghost use Rattle.memory_definition.specs.Forms.{constantOn, sameConstant, fitsUpTo, heldConstant, heldHead};
+ghost use Rattle.memory_laws.specs.Placed.{Placed};
 ghost use Rattle.memory_forms.specs.Cell.{nodeOf, cellOf};
 use crate::entries::entries_up_to;
 use crate::form::form_of;
@@ -22,12 +24,12 @@ use definition::records::Shape;
 use memory_definition::form::Form;
 use places::values::converted;
 use plain::words::constant_plain;
+use ranges::range::size;
 use reals::is_nan;
 use records::view::shape_at;
 use records::words::count;
 use records::words::word;
 use scalar::node::Leaf;
-use scalar::range::size;
 use scalar::string::MaxLength;
 use scalar::string::max_length;
 use scalar::string::string_constant;
@@ -83,7 +85,7 @@ fn unchanged_string(file: &[u32], source: &[usize], length: u32, width: u32, c: 
 
 // Conversion to the shape returns it unchanged.
 fn unchanged(file: &[u32], source: &[usize], shape: Shape, c: Constant) -> bool
-    requires { ⌜ StartsOf (now file) (now source) ⌝ }
+    requires { ⌜ StartsOf (now file) (now source) × Bits shape ⌝ }
     ensures { λ r. ⌜ r ≡ Forms.unchanged (now (file .entry)) shape c ⌝ }
 {
     match shape {
@@ -97,7 +99,7 @@ fn unchanged(file: &[u32], source: &[usize], shape: Shape, c: Constant) -> bool
 
 // It fits the shape, and if that is a subrange, its base.
 fn fits_up_to(file: &[u32], source: &[usize], most: usize, shape: Shape, c: Constant) -> bool
-    requires { ⌜ StartsOf (now file) (now source) ⌝ }
+    requires { ⌜ StartsOf (now file) (now source) × Placed (now file) shape ⌝ }
     ensures { λ r. ⌜ r ≡ fitsUpTo (now (file .entry)) most shape c ⌝ }
 {
     let mut left = most;
@@ -121,7 +123,7 @@ fn fits_up_to(file: &[u32], source: &[usize], most: usize, shape: Shape, c: Cons
 }
 
 fn held_constant(file: &[u32], source: &[usize], shape: Shape, node: Node) -> bool
-    requires { ⌜ StartsOf (now file) (now source) ⌝ }
+    requires { ⌜ StartsOf (now file) (now source) × Placed (now file) shape ⌝ }
     ensures { λ r. ⌜ r ≡ heldConstant (now (file .entry)) (cellOf shape node) ⌝ }
 {
     let c = constant_on(node);
@@ -133,7 +135,7 @@ fn held_constant(file: &[u32], source: &[usize], shape: Shape, node: Node) -> bo
 }
 
 fn held_real(file: &[u32], source: &[usize], shape: Shape, node: Node) -> bool
-    requires { ⌜ StartsOf (now file) (now source) ⌝ }
+    requires { ⌜ StartsOf (now file) (now source) × Placed (now file) shape ⌝ }
     ensures { λ r. ⌜ r ≡ Forms.heldAs (now (file .entry)) form.Real (cellOf shape node) ⌝ }
 {
     if is_nan(size(constant_on(node))) {
@@ -176,7 +178,7 @@ fn held_member(file: &[u32], source: &[usize], first: u32, many: u32, node: Node
 }
 
 pub fn held(file: &[u32], source: &[usize], shape: Shape, node: Node) -> bool
-    requires { ⌜ StartsOf (now file) (now source) ⌝ }
+    requires { ⌜ StartsOf (now file) (now source) × Placed (now file) shape ⌝ }
     ensures { λ r. ⌜ r ≡ Forms.held (now (file .entry)) (cellOf shape node) ⌝ }
 {
     match form_of(file, source, shape, node.kind) {

@@ -1,6 +1,6 @@
 -- The shapes of an accepted file have the sizes that reading back asks for. Assumes nothing.
 use mathlib.Core.Path.{_≡_, refl}
-use mathlib.Core.Bool.{Bool, true, false, _&&_, _||_}
+use mathlib.Core.Bool.{Bool, true, false, _||_}
 use mathlib.Core.List.{List, [], _∷_}
 use Prim.Native.Nat.{ℕ, zero, suc, _*_, _/_, _≤_, _<_}
 use native.Mathlib.Omega.{arith}
@@ -8,15 +8,16 @@ use lib.Dec.{eqb, leb, lit<}
 use borrow.Author.Tests.{eqb-true, leb-true}
 use Rattle.definition.specs.declared.records.Shape.{Shape}
 use Rattle.definition.specs.declared.records.Shape.the-variants as shape
-use Rattle.definition.specs.Base.{pick, every, unused}
+use Rattle.definition.specs.Base.{pick, every}
 use Rattle.definition.specs.Layout.{word, count, settings, shapes, members, mostRecords, limitsOfRecords}
-use Rattle.definition.specs.Records.{shapeOf, shapeAt}
-use Rattle.definition.specs.Accept.{isBits, shapePlain, plainRules, countsRight}
+use Rattle.definition.specs.Records.{shapeAt}
+use Rattle.definition.specs.Accept.{isBits, plainRules, countsRight}
 use Rattle.definition.specs.Ask.{ok, none}
 use Rattle.definition.specs.Scalar.{maxLength}
-use Rattle.laws.specs.Cases.{both, either, by-kind, on-pick}
+use Rattle.laws.specs.Cases.{both, either, on-pick}
 use Rattle.laws.specs.Accepted.{Accepted, count-most, word-rule}
 use Rattle.laws.specs.Pointed.{ShapePointed, shape-pointed}
+use Rattle.laws.specs.Bits.{Bits, shape-bits}
 use Rattle.memory_definition.specs.declared.form.Form.{Form}
 use Rattle.memory_definition.specs.declared.form.Form.the-variants as form
 use Rattle.memory_definition.specs.Cells.{Cell}
@@ -33,39 +34,6 @@ whole-bytes bits e =
     (λ y. either (eqb bits 8) (eqb bits 16) y (λ z. rw (eqb-true bits 8 z) (omega arith, refl, omega arith)) (λ z. rw (eqb-true bits 16 z) (omega arith, refl, omega arith)))
     (λ z. rw (eqb-true bits 32 z) (omega arith, refl, omega arith)))
     (λ z. rw (eqb-true bits 64 z) (omega arith, refl, omega arith))
-
--- what the words of a shape's record say of its bits
-abbrev Bits : Shape → Type 0
-Bits shape.Bool = Unit {0}
-Bits (shape.Int bits) = isBits bits ≡ true
-Bits (shape.UInt bits) = isBits bits ≡ true
-Bits (shape.Real bits) = Unit {0}
-Bits (shape.Bytes bits) = isBits bits ≡ true
-Bits (shape.Time bits) = isBits bits ≡ true
-Bits (shape.Date bits) = isBits bits ≡ true
-Bits (shape.TimeOfDay bits) = isBits bits ≡ true
-Bits (shape.DateAndTime bits) = isBits bits ≡ true
-Bits (shape.String length width) = Unit {0}
-Bits (shape.Enumeration first count default underlying) = Unit {0}
-Bits (shape.Structure first count) = Unit {0}
-Bits (shape.Array element first count) = Unit {0}
-Bits (shape.Subrange base low high) = Unit {0}
-Bits (shape.FunctionBlock name) = Unit {0}
-Bits (shape.Interface name) = Unit {0}
-Bits (shape.Reference target) = Unit {0}
-Bits shape.Unknown = Unit {0}
-
-plain-bits : (kind a b c d : ℕ) → shapePlain kind a b c d ≡ true → Bits (shapeOf kind a b c d)
-unfolding shapePlain shapeOf
-plain-bits kind a b c d =
-    by-kind 17 (λ k. shapePlain k a b c d ≡ true → Bits (shapeOf k a b c d))
-    (λ e. tt) own own (λ e. tt) own own own own own
-    (λ e. tt) (λ e. tt) (λ e. tt) (λ e. tt) (λ e. tt) (λ e. tt) (λ e. tt) (λ e. tt)
-    (λ k e. tt)
-    kind
-  where
-    own : isBits a && unused (b ∷ c ∷ d ∷ []) ≡ true → isBits a ≡ true
-    own e = both (isBits a) (unused (b ∷ c ∷ d ∷ [])) e .0
 
 -- ---- the settings' length is at most 65535
 module _ (f : List ℕ) (a : Accepted f) where
@@ -123,15 +91,11 @@ module _ (f : List ℕ) (a : Accepted f) where
   sized-by below n (shape.Reference target) ih b p = tt
   sized-by below n shape.Unknown ih b p = absurd p
 
-  bits-at : (n : ℕ) → n < count f shapes → Bits (shapeAt f n)
-  unfolding shapeAt plainRules
-  bits-at n h = plain-bits (word f shapes n 0) (word f shapes n 1) (word f shapes n 2) (word f shapes n 3) (word f shapes n 4) (word-rule f a shapes n (lit< tt) h)
-
   sized-up-to : (k n : ℕ) → n < count f shapes → SizedAs (storedUpTo f k (shapeAt f n))
   unfolding storedUpTo
   sized-up-to zero n h = tt
   sized-up-to (suc k) n h =
-      sized-by (λ base. storedUpTo f k (shapeAt f base)) n (shapeAt f n) (λ base l. sized-up-to k base (omega arith)) (bits-at n h) (shape-pointed f a n h)
+      sized-by (λ base. storedUpTo f k (shapeAt f base)) n (shapeAt f n) (λ base l. sized-up-to k base (omega arith)) (shape-bits f a n h) (shape-pointed f a n h)
 
 -- ---- the shapes of places: those of the file, strings of an initializer, and none
 pub data Shaped (f : List ℕ) (s : Shape) : Type 0 where

@@ -24,6 +24,8 @@ pub mod Parts
 pub mod Exactly
 -- that an accepted file's shapes have the sizes that this asks for
 pub mod AcceptedSizes
+-- what holds of the shape of a place
+pub mod Placed
 -- that the nodes of a variable's tree stand at such shapes
 pub mod CellShapes
 -- start memory of a variable of an accepted file

@@ -23,7 +23,7 @@ use Rattle.memory_definition.specs.Memory.{size, readableAll, textAll}
 use Rattle.memory_laws.specs.Bytes.{Bytes, bytes-each}
 use Rattle.memory_laws.specs.InWords.{shapeIn, cellIn, cellsFrom}
 use Rattle.memory_laws.specs.Same.{SizedAs}
-use Rattle.memory_nodes.specs.Sized.{SizedForms}
+use Rattle.memory_laws.specs.Placed.{Placed, placed-first, placed-next, placed-form}
 use Rattle.memory_nodes.specs.Readable.{stringFills, fills}
 use Rattle.memory_nodes.specs.Reading.{own, Few, Stands}
 use Rattle.memory_nodes.specs.All.{Ahead, Words, Ready}
@@ -44,7 +44,7 @@ module _ {f tree shapes : List ℕ} {nodes : ℕ} (bytes : List ℕ) (k : (i : �
   start : {b : Bool} → Words f tree shapes nodes → readableAll f (cellsFrom tree shapes 0 nodes) bytes ≡ b → Along f tree shapes bytes 0 nodes 0 b
   start w e =
       record {
-        ahead = record { sized = w .0; nodes = omega (arith, w .1); shapes-long = omega (arith, w .2) };
+        ahead = record { placed = w .0; nodes = omega (arith, w .1); shapes-long = omega (arith, w .2) };
         same = e;
         inside = omega arith;
         known = bytes-each bytes (λ i l. k i .fits);
@@ -110,15 +110,15 @@ module _ {f tree shapes bytes : List ℕ} {at left from : ℕ} {b : Bool} (x : A
     pub along-shapes : at + 6 ≤ length shapes
     along-shapes = omega (arith, x .ahead .shapes-long)
 
-    sized-cells : SizedForms f (cellIn tree shapes at ∷ cellsFrom tree shapes (at + 6) (left - 1))
-    sized-cells = subst (λ (l : List Cell). SizedForms f l) (cells-next tree shapes at left h) (x .ahead .sized)
+    along-placed : Placed f (shapeIn shapes at)
+    along-placed = placed-first (x .ahead .placed) h
 
     ahead-next : Ahead f tree shapes (at + 6) (left - 1)
-    ahead-next = record { sized = sized-cells .1; nodes = omega (arith, x .ahead .nodes); shapes-long = omega (arith, x .ahead .shapes-long) }
+    ahead-next = record { placed = placed-next (x .ahead .placed) h; nodes = omega (arith, x .ahead .nodes); shapes-long = omega (arith, x .ahead .shapes-long) }
 
     module _ {fm : Form} (e : fm ≡ formOf f (cellIn tree shapes at)) where
       pub along-stands : Stands f tree shapes at fm
-      along-stands = record { form = e; sized = subst SizedAs (sym e) (sized-cells .0); node = along-tree; shape = along-shapes }
+      along-stands = record { form = e; sized = subst SizedAs (sym e) (placed-form (cellIn tree shapes at) along-placed); placed = along-placed; node = along-tree; shape = along-shapes }
 
       pub along-sized : SizedAs fm
       along-sized = along-stands .sized

@@ -24,6 +24,7 @@ use Rattle.memory_definition.specs.Forms.{formOf, sizeAs, nodeAs, nodeRead, hel
 use Rattle.memory_laws.specs.Bytes.{Bytes, bytes-take, bytes-drop}
 use Rattle.memory_laws.specs.InWords.{shapeIn, cellIn}
 use Rattle.memory_forms.specs.Cell.{cellOf}
+use Rattle.memory_laws.specs.Placed.{Placed}
 use Rattle.memory_laws.specs.Same.{SizedAs}
 use Rattle.memory_nodes.specs.Readable.{stringFills, fills, readableBy, readable-by}
 use Rattle.memory_nodes.specs.Reading.{own, seen, read-seen, Stands, drop-take, length-own}
@@ -131,6 +132,9 @@ own-by f c fm e p bytes from b =
     readable-by f c bs (bytes-take (sizeAs (formOf f c)) (drop from bytes) (bytes-drop from bytes b)) q (omega (arith, length-take (sizeAs (formOf f c)) (drop from bytes))))
     p
 
+pub shape-placed : {f tree shapes : List ℕ} {at : ℕ} {fm : Form} → Stands f tree shapes at fm → {sh : Shape} → sh ≡ shapeIn shapes at → Placed f sh
+shape-placed s e = rw e (s .placed)
+
 module _ {f tree shapes : List ℕ} {at : ℕ} {fm : Form} (s : Stands f tree shapes at fm) (bytes : List ℕ) (from : ℕ) (b : Bytes bytes) where
   abbrev bs : List ℕ
   bs = own fm bytes from
@@ -169,4 +173,4 @@ pub ruleset strings = (needs, other-most, too-long, zeros-behind, zeros-room)
 
 pub ruleset fillings = (needs, null-room, string-room, member-room, fills-head, fills-null, fills-bool, fills-number, fills-real, fills-long, fills-string, fills-member, fills-nothing)
 
-pub ruleset readables = (needs, too-short, not-held, held-fills, own-room)
+pub ruleset readables = (needs, shape-placed, too-short, not-held, held-fills, own-room)

@@ -1,5 +1,3 @@
--- the sizes of forms in an accepted file
-pub mod Sized
 -- which bytes a node is written as, asked of the bytes
 pub mod Readable
 -- the bytes of a node among others

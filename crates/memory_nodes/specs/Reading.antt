@@ -12,7 +12,8 @@ use Rattle.memory_definition.specs.declared.form.Form.the-variants as form
 use Rattle.memory_definition.specs.Cells.{Cell, cell}
 use Rattle.memory_definition.specs.Numbers.{numberFrom, lengthFrom}
 use Rattle.memory_definition.specs.Forms.{formOf, sizeAs, nodeAs}
-use Rattle.memory_laws.specs.InWords.{cellIn}
+use Rattle.memory_laws.specs.InWords.{shapeIn, cellIn}
+use Rattle.memory_laws.specs.Placed.{Placed}
 use Rattle.memory_laws.specs.Same.{SizedAs}
 
 -- as many bytes as a form has
@@ -39,6 +40,7 @@ read-seen f form.Nothing at c bs = refl
 pub record Stands (f tree shapes : List ℕ) (at : ℕ) (fm : Form) : Type 0 where
   pub form : fm ≡ formOf f (cellIn tree shapes at)
   pub sized : SizedAs fm
+  pub placed : Placed f (shapeIn shapes at)
   pub node : at + 6 ≤ length tree
   pub shape : at + 6 ≤ length shapes
 

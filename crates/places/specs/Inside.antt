@@ -18,6 +18,7 @@ use Rattle.laws.specs.Asks.{OnOk}
 use Rattle.laws.specs.Cases.{on-pick, on-link}
 use Rattle.laws.specs.Links.{Link, link-to}
 use Rattle.laws.specs.Accepted.{Accepted, number-in, type-points}
+use Rattle.laws.specs.Bits.{Bits, shape-bits}
 use Rattle.laws.specs.Strings.{widthIn, shape-width, initializer-width, literal-length}
 use Rattle.scalar.specs.Convert.{Counts}
 use Rattle.laws.specs.Pointed.{Run, ShapePointed, shape-pointed, named-of}
@@ -28,10 +29,11 @@ use Rattle.places.specs.declared.field.Found.the-variants as found
 use Rattle.places.specs.Found.{placeIn}
 use Rattle.places.specs.Shapes.{on-kind}
 
--- a shape whose numbers and runs lie inside their sections; a string's width is 0 or 1
+-- a shape whose numbers and runs lie inside their sections; a string's width is 0 or 1, a number has 8, 16, 32 or 64 bits
 pub record ShapeIn (f : List ℕ) (s : Shape) : Type 0 where
   pub points : ShapePointed f (count f shapes) s
   pub width : widthIn s ≤ 1
+  pub bits : Bits s
 
 pub record PlaceIn (f : List ℕ) (place : Place) : Type 0 where
   pub types : Below (IsType f) place
@@ -76,7 +78,7 @@ structure-fields i e = let p = rw e at (i .shape .points) in record { inside = p
 
 module _ (f : List ℕ) (a : Accepted f) where
   pub shape-in : (s : ℕ) → s < count f shapes → ShapeIn f (shapeAt f s)
-  shape-in s h = record { points = pointed-up f s (count f shapes) (omega arith) (shapeAt f s) (shape-pointed f a s h); width = shape-width f a s h }
+  shape-in s h = record { points = pointed-up f s (count f shapes) (omega arith) (shapeAt f s) (shape-pointed f a s h); width = shape-width f a s h; bits = shape-bits f a s h }
 
   pub type-shape : (t : ℕ) → IsType f t → typeShape f t < count f shapes
   unfolding typeShape
@@ -142,7 +144,7 @@ module _ (f : List ℕ) (a : Accepted f) where
   variable-in v i h l =
       on-pick (OnOk (PlaceIn f)) (eqb (initializerKind f i) 4) (stringPlace f i) _
       (λ e. on-pick (OnOk (PlaceIn f)) (eqb (word f initializers i 6) inline) none _ (λ q. tt)
-      (λ q. record { types = placed-bare (IsType f) (IsType f) _; shape = record { points = tt; width = initializer-width f a i l (eqb-true (initializerKind f i) 4 e) } }))
+      (λ q. record { types = placed-bare (IsType f) (IsType f) _; shape = record { points = tt; width = initializer-width f a i l (eqb-true (initializerKind f i) 4 e); bits = tt } }))
       (λ e. on-link (OnOk (PlaceIn f)) (word f variables v 2) none _ tt (λ t q. of-in t (link-to (IsType f) _ t q h)))
 
   -- the place that `variable_place` finds

@@ -9,6 +9,7 @@ ghost use Rattle.definition.specs.Records.{constantAt};
 ghost use Rattle.definition.specs.Scalar as scalar;
 ghost use Rattle.definition.specs.Scalar.{asTree, constantValue, builtIn, enumeratedValue};
 ghost use Rattle.laws.specs.Accepted.{Accepted};
+ghost use Rattle.laws.specs.Bits.{Bits};
 ghost use Rattle.records.specs.Starts.{StartsOf};
 ghost use Rattle.scalar.specs.Node.{resultOf};
 ghost use Rattle.scalar.specs.Convert.{Bounds, Counts};
@@ -57,7 +58,7 @@ fn range_of(file: &[u32], source: &[usize], shape: Shape, any: Constant) -> Rang
 
 // A constant as a literal of the kind that the place stores.
 pub fn converted(file: &[u32], source: &[usize], shape: Shape, c: Constant) -> Leaf
-    requires { ⌜ StartsOf (now file) (now source) × Counts shape c ⌝ }
+    requires { ⌜ StartsOf (now file) (now source) × Bits shape × Counts shape c ⌝ }
     ensures { λ r. ⌜ resultOf r ≡ scalar.converted (now (file .entry)) shape c ⌝ }
 {
     let setting = word(file, source, SETTINGS, 0, 0);

@@ -4,16 +4,17 @@ ghost use mathlib.Core.Bool.{_&&_, _||_};
 ghost use lib.Dec.{eqb, leb};
 ghost use Rattle.definition.specs.declared.records.Shape.the-variants as shape;
 ghost use Rattle.definition.specs.Scalar as scalar;
+ghost use Rattle.laws.specs.Bits.{Bits};
 ghost use Rattle.scalar.specs.Node.{resultOf};
 ghost use Rattle.scalar.specs.Convert.{asStringBy, convertedBy, Counts};
 use crate::node::Leaf;
-use crate::range::holds;
-use crate::range::negative;
-use crate::range::size;
-use crate::range::within;
 use crate::string::cut_string;
 use definition::records::Constant;
 use definition::records::Shape;
+use ranges::range::fits;
+use ranges::range::negative;
+use ranges::range::size;
+use ranges::range::within;
 use rounding::rounded;
 
 fn kept(test: bool, c: Constant) -> Leaf
@@ -111,19 +112,19 @@ fn as_string(length: u32, width: u32, c: Constant, setting: u32) -> Leaf
 // The two bounds are a subrange's constants, and the setting is the default string length: other shapes look at none of them.
 // A duration can be negative, the calendar kinds count up from their epoch.
 pub fn convert(shape: Shape, c: Constant, least: Constant, greatest: Constant, setting: u32) -> Leaf
-    requires { ⌜ Counts shape c ⌝ }
+    requires { ⌜ Bits shape × Counts shape c ⌝ }
     ensures { λ r. ⌜ resultOf r ≡ convertedBy shape c least greatest setting ⌝ }
 {
     match shape {
         Shape::Bool => as_bool(c),
-        Shape::Int { bits } => as_integer(holds(c, bits, true), c),
-        Shape::UInt { bits } => as_integer(holds(c, bits, false), c),
+        Shape::Int { bits } => as_integer(fits(c, bits, true), c),
+        Shape::UInt { bits } => as_integer(fits(c, bits, false), c),
         Shape::Real { bits } => as_real(bits, c),
-        Shape::Bytes { bits } => as_integer(holds(c, bits, false), c),
-        Shape::Time { bits } => as_count(4, holds(c, bits, true), c),
-        Shape::Date { bits } => as_count(6, holds(c, bits, false), c),
-        Shape::TimeOfDay { bits } => as_count(5, holds(c, bits, false), c),
-        Shape::DateAndTime { bits } => as_count(7, holds(c, bits, false), c),
+        Shape::Bytes { bits } => as_integer(fits(c, bits, false), c),
+        Shape::Time { bits } => as_count(4, fits(c, bits, true), c),
+        Shape::Date { bits } => as_count(6, fits(c, bits, false), c),
+        Shape::TimeOfDay { bits } => as_count(5, fits(c, bits, false), c),
+        Shape::DateAndTime { bits } => as_count(7, fits(c, bits, false), c),
         Shape::String { length, width } => as_string(length, width, c, setting),
         Shape::Enumeration { .. } => Leaf::None,
         Shape::Subrange { .. } => as_integer(within(c, least, greatest), c),

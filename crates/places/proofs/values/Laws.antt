@@ -18,6 +18,7 @@ use Rattle.definition.specs.Records.{constantAt}
 use Rattle.definition.specs.Accept.{endsRight}
 use Rattle.definition.specs.Ask.{Result, none, Outcome}
 use Rattle.definition.specs.Scalar.{converted, asTree, constantValue, builtIn, enumeratedValue}
+use Rattle.laws.specs.Bits.{Bits}
 use Rattle.laws.specs.Accepted.{Accepted}
 use Rattle.records.specs.Starts.{StartsOf}
 use Rattle.records.proofs.Starting.{start-most}
@@ -47,6 +48,9 @@ converted-in f s c {low} {high} b e k = k ∙ (rw e (converted-is f s c low high
 
 pub constant-counts : {f : List ℕ} → Accepted f → {s : Shape} → ShapeIn f s → (n : ℕ) → n < count f constants → {c : Constant} → c ≡ constantAt f n → Counts s c
 constant-counts {f} a {s} i n h e = rw e (counts-in f a s n i h)
+
+pub constant-bits : {f : List ℕ} {s : Shape} → ShapeIn f s → Bits s
+constant-bits i = i .bits
 
 pub constant-is : (f : List ℕ) (s : Shape) (n : ℕ) {c : Constant} → c ≡ constantAt f n → {r : Result Constant} → r ≡ converted f s c → asTree r ≡ constantValue f s (constantAt f n)
 unfolding constantValue
@@ -115,4 +119,4 @@ implicit-in f s {low} b {member} d w h =
     (record { of-subrange = λ base l g e. b .of-subrange base l g e .0; of-enumeration = λ first many default underlying e l. d .of-enumeration first many default underlying e })
 
 pub ruleset laws =
-    (needs, subrange-bounds, no-bounds, converted-in, constant-counts, constant-is, members-start, member-is, members-end, members-run, members-inside, enumerated-by, no-enumeration, default-member, no-default, implicit-in)
+    (needs, subrange-bounds, no-bounds, converted-in, constant-counts, constant-bits, constant-is, members-start, member-is, members-end, members-run, members-inside, enumerated-by, no-enumeration, default-member, no-default, implicit-in)

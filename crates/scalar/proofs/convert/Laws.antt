@@ -16,9 +16,11 @@ use Rattle.definition.specs.declared.records.Shape.the-variants as shape
 use Rattle.definition.specs.declared.records.Constant.{Constant}
 use Rattle.definition.specs.Records.{constantOf}
 use Rattle.definition.specs.Ask.{Result, ok, none}
+use Rattle.definition.specs.Accept.{isBits}
 use Rattle.definition.specs.Ieee.{rounded}
 use Rattle.definition.specs.Iec.{between, inRange}
 use Rattle.definition.specs.Scalar.{sizeOf, valueOf, isInteger, kept, asBool, asInteger, asReal, asCount}
+use Rattle.laws.specs.Bits.{Bits}
 use Rattle.scalar.specs.String.{cutBy, Countable}
 use Rattle.scalar.specs.Convert.{asStringBy, convertedBy, Counts}
 use Rattle.scalar.proofs.NoScalar.{noScalars, no-scalar}
@@ -115,6 +117,9 @@ pub low-fits : (r : ℕ) → Fits w32 (bitAnd r (2 ^ 32 - 1))
 low-fits r = record { fits = mask-lt r 32 }
 
 -- ---- `convert`: an arm for each shape
+pub arm-bits : (bits : ℕ) {s : Shape} → Bits s → {t : Shape} → s ≡ t → (Bits t → isBits bits ≡ true) → isBits bits ≡ true
+arm-bits bits b e h = h (rw e at b)
+
 module _ (c least greatest : Constant) (setting : ℕ) (s : Shape) where
   pub other-none : OneOf noScalars (tagOf the-type s) → none ≡ convertedBy s c least greatest setting
   unfolding convertedBy
@@ -172,6 +177,6 @@ module _ (c least greatest : Constant) (setting : ℕ) (s : Shape) where
       unfolding convertedBy asCount
       to-date-and-time e h k = rw (e, ← h) k
 
-pub ruleset arms = (needs, shape-counted, other-none, enumeration-none, to-bool, to-real, to-string, to-subrange, to-int, to-uint, to-bytes, to-time, to-date, to-time-of-day, to-date-and-time)
+pub ruleset arms = (needs, arm-bits, shape-counted, other-none, enumeration-none, to-bool, to-real, to-string, to-subrange, to-int, to-uint, to-bytes, to-time, to-date, to-time-of-day, to-date-and-time)
 
 pub ruleset laws = (needs, kept-yes, kept-no, both-kept, first-none, kind-kept, kind-none, bit-integer, bit-signed, bit-other, whole-integer, whole-other, bool-bit, bool-other, real-integer, real-other, string-counted, string-kept, string-none, low-fits)

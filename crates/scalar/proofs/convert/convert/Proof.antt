@@ -12,8 +12,8 @@ as-bool-requires c κs = search arms
 enum-known-shape : tie.Need-enum-known-shape
 enum-known-shape c = search arms
 
-holds-requires : tie.Need-holds-requires
-holds-requires c κs = search arms
+fits-requires : tie.Need-fits-requires
+fits-requires c κs = search arms
 
 as-integer-requires : tie.Need-as-integer-requires
 as-integer-requires c κs = search arms
@@ -21,8 +21,8 @@ as-integer-requires c κs = search arms
 enum-known-shape-2 : tie.Need-enum-known-shape-2
 enum-known-shape-2 c = search arms
 
-holds-requires-2 : tie.Need-holds-requires-2
-holds-requires-2 c κs = search arms
+fits-requires-2 : tie.Need-fits-requires-2
+fits-requires-2 c κs = search arms
 
 as-integer-requires-2 : tie.Need-as-integer-requires-2
 as-integer-requires-2 c κs = search arms
@@ -36,8 +36,8 @@ as-real-requires c κs = search arms
 enum-known-shape-4 : tie.Need-enum-known-shape-4
 enum-known-shape-4 c = search arms
 
-holds-requires-3 : tie.Need-holds-requires-3
-holds-requires-3 c κs = search arms
+fits-requires-3 : tie.Need-fits-requires-3
+fits-requires-3 c κs = search arms
 
 as-integer-requires-3 : tie.Need-as-integer-requires-3
 as-integer-requires-3 c κs = search arms
@@ -45,8 +45,8 @@ as-integer-requires-3 c κs = search arms
 enum-known-shape-5 : tie.Need-enum-known-shape-5
 enum-known-shape-5 c = search arms
 
-holds-requires-4 : tie.Need-holds-requires-4
-holds-requires-4 c κs = search arms
+fits-requires-4 : tie.Need-fits-requires-4
+fits-requires-4 c κs = search arms
 
 as-count-requires : tie.Need-as-count-requires
 as-count-requires c κs = search arms
@@ -54,8 +54,8 @@ as-count-requires c κs = search arms
 enum-known-shape-6 : tie.Need-enum-known-shape-6
 enum-known-shape-6 c = search arms
 
-holds-requires-5 : tie.Need-holds-requires-5
-holds-requires-5 c κs = search arms
+fits-requires-5 : tie.Need-fits-requires-5
+fits-requires-5 c κs = search arms
 
 as-count-requires-2 : tie.Need-as-count-requires-2
 as-count-requires-2 c κs = search arms
@@ -63,8 +63,8 @@ as-count-requires-2 c κs = search arms
 enum-known-shape-7 : tie.Need-enum-known-shape-7
 enum-known-shape-7 c = search arms
 
-holds-requires-6 : tie.Need-holds-requires-6
-holds-requires-6 c κs = search arms
+fits-requires-6 : tie.Need-fits-requires-6
+fits-requires-6 c κs = search arms
 
 as-count-requires-3 : tie.Need-as-count-requires-3
 as-count-requires-3 c κs = search arms
@@ -72,8 +72,8 @@ as-count-requires-3 c κs = search arms
 enum-known-shape-8 : tie.Need-enum-known-shape-8
 enum-known-shape-8 c = search arms
 
-holds-requires-7 : tie.Need-holds-requires-7
-holds-requires-7 c κs = search arms
+fits-requires-7 : tie.Need-fits-requires-7
+fits-requires-7 c κs = search arms
 
 as-count-requires-4 : tie.Need-as-count-requires-4
 as-count-requires-4 c κs = search arms
@@ -142,27 +142,27 @@ convert-spec =
     enum-told
     as-bool-requires
     enum-known-shape
-    holds-requires
+    fits-requires
     as-integer-requires
     enum-known-shape-2
-    holds-requires-2
+    fits-requires-2
     as-integer-requires-2
     enum-known-shape-3
     as-real-requires
     enum-known-shape-4
-    holds-requires-3
+    fits-requires-3
     as-integer-requires-3
     enum-known-shape-5
-    holds-requires-4
+    fits-requires-4
     as-count-requires
     enum-known-shape-6
-    holds-requires-5
+    fits-requires-5
     as-count-requires-2
     enum-known-shape-7
-    holds-requires-6
+    fits-requires-6
     as-count-requires-3
     enum-known-shape-8
-    holds-requires-7
+    fits-requires-7
     as-count-requires-4
     enum-known-shape-9
     as-string-requires

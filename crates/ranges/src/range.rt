@@ -1,50 +1,15 @@
-// What an integer type holds (value_range.rs), on a sign and a size instead of an i128.
+// Whether an integer type or a subrange holds a number (`fits` of value_range.rs), on a sign and a size instead of an i128.
 ghost use mathlib.Core.Path.{_≡_};
-ghost use Prim.Native.Nat.{_-_, _^_};
-ghost use lib.Dec.{ltb, eqb};
+ghost use mathlib.Core.Bool.{true};
+ghost use lib.Dec.{eqb};
 ghost use lib.Signed.{leZ};
-ghost use Rattle.definition.specs.Iec.{number, inRange, between};
+ghost use Rattle.definition.specs.Accept.{isBits};
+ghost use Rattle.definition.specs.Iec.{inRange, between};
 ghost use Rattle.definition.specs.Scalar.{sizeOf, valueOf};
+ghost use Rattle.ranges.specs.Table.{depthOf};
+use crate::table::Range;
+use crate::table::for_integer;
 use definition::records::Constant;
-
-fn below(size: u64, bits: u32) -> bool
-    ensures { λ r. ⌜ r ≡ ltb size (2 ^ bits) ⌝ }
-{
-    if bits < 64 {
-        return size < 1u64 << bits;
-    }
-    true
-}
-
-// The bits below the sign.
-fn signed_bits(bits: u32) -> u32
-    ensures { λ r. ⌜ r ≡ bits - 1 ⌝ }
-{
-    if bits > 0 {
-        return bits - 1;
-    }
-    0
-}
-
-// Whether an integer of some bits holds a number.
-pub fn fits(negative: bool, size: u64, bits: u32, signed: bool) -> bool
-    ensures { λ r. ⌜ r ≡ inRange signed bits (number negative size) ⌝ }
-{
-    if negative {
-        if size == 0 {
-            return true;
-        }
-        if signed {
-            // two's complement reaches one further below 0
-            return below(size - 1, signed_bits(bits));
-        }
-        return false;
-    }
-    if signed {
-        return below(size, signed_bits(bits));
-    }
-    below(size, bits)
-}
 
 pub fn negative(c: Constant) -> bool
     ensures { λ r. ⌜ r ≡ eqb (c .sign) 1 ⌝ }
@@ -58,11 +23,30 @@ pub fn size(c: Constant) -> u64
     (c.low as u64) + ((c.high as u64) << 32)
 }
 
+// How far a bound lies below 0.
+pub fn depth(bound: i64) -> u64
+    ensures { λ r. ⌜ r ≡ depthOf bound ⌝ }
+{
+    if bound < 0 {
+        // counted from -1, since the least i64 has no opposite
+        return (-1 - bound) as u64 + 1;
+    }
+    0
+}
+
 // Whether an integer of some bits holds a constant's number.
-pub fn holds(c: Constant, bits: u32, signed: bool) -> bool
+pub fn fits(c: Constant, bits: u32, signed: bool) -> bool
+    requires { ⌜ isBits bits ≡ true ⌝ }
     ensures { λ r. ⌜ r ≡ inRange signed bits (valueOf c) ⌝ }
 {
-    fits(negative(c), size(c), bits, signed)
+    let Range::Between(least, greatest) = for_integer(bits, signed) else {
+        // not reached: the table has these bits
+        return false;
+    };
+    if negative(c) {
+        return size(c) <= depth(least);
+    }
+    size(c) <= greatest
 }
 
 // Whether a constant's number is at most another's. Either may be a zero with a sign.

@@ -1,9 +1,9 @@
 -- `range::size` meets its contract. Assumes nothing.
-use Rattle.scalar.proofs.range.Laws.{laws}
+use Rattle.ranges.proofs.range.Laws.{laws}
 use Rattle.definition.specs.Base.{joined}
 use Rattle.definition.specs.Scalar.{sizeOf}
-use Rattle.scalar.proofs.range.size.Statement.{statement}
-use Rattle.scalar.proofs.range.size.Tie as tie
+use Rattle.ranges.proofs.range.size.Statement.{statement}
+use Rattle.ranges.proofs.range.size.Tie as tie
 
 cast-result : tie.Need-cast-result
 cast-result c = search laws
