@@ -13,7 +13,7 @@ use Rattle.definition.specs.Accept.{isBits, shapePlain, plainRules}
 use Rattle.laws.specs.Cases.{both, by-kind}
 use Rattle.laws.specs.Accepted.{Accepted, word-rule}
 
--- the bits of a shape that has some are bits of a shape's record
+-- an integer, a bit string, a time or a date has one of these widths; a REAL's is not asked for
 abbrev pub Bits : Shape → Type 0
 Bits shape.Bool = Unit {0}
 Bits (shape.Int bits) = isBits bits ≡ true

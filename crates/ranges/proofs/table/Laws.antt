@@ -1,4 +1,4 @@
--- A law for each row of the table, at any sign and width. Assumes nothing.
+-- One law for every row of the table, and one for a width without a row. Assumes nothing.
 use mathlib.Core.Path.{_≡_, refl}
 use mathlib.Core.Bool.{Bool, true, false}
 use Prim.Native.Nat.{ℕ}
