@@ -1,5 +1,7 @@
 // Replays stored files with their verdicts (vectors/refusals): a count, that many words, and the refusal that document 01 gives them, until the input ends.
 // Prints how many were right, and the number and the answer of each that was not.
+#![tactic(auto)]
+
 ghost use Rattle.std.specs.Prelude.{◌<◌, ◌≤◌};
 
 use acceptance::accept::accept;
@@ -12,7 +14,7 @@ const MOST_WORDS: usize = 66000;
 // More files than are stored.
 const MOST_FILES: usize = 100000;
 
-#[derive(Drop)]
+#[derive(Clone, Copy)]
 enum Replayed {
     Right,
     Wrong(u32),

@@ -13,14 +13,14 @@ use definition::layout::{ENTRIES, SHAPE_FIELDS, SHAPES};
 use records::words::{count, run_word, word, word_at};
 
 // What nests.
-#[derive(Drop)]
+#[derive(Clone, Copy)]
 pub enum Nesting {
     Entries,
     Shapes,
 }
 
 // What a run lists: records of the table, or shape fields, each of which leads to a shape.
-#[derive(Drop)]
+#[derive(Clone, Copy)]
 pub enum Run {
     Records,
     Fields,

@@ -1,7 +1,7 @@
 // What a building function answers.
 
 // Where the answer ends in the room; none; too large; or the first type that is not remembered.
-#[derive(Drop)]
+#[derive(Clone, Copy)]
 pub enum Built {
     Ends(usize),
     None,

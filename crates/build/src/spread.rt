@@ -16,7 +16,7 @@ use tree::words::shift;
 use tree_changes::grow::{Grown, repeat};
 
 // So many values, with so many nodes in all.
-#[derive(Drop)]
+#[derive(Clone, Copy)]
 pub struct Values {
     pub count: u32,
     pub nodes: usize,

@@ -1,5 +1,7 @@
 // The check program: the names of a declaration file and of a sheet, each words in little-endian bytes, as arguments; prints `passes`, or `refused` and the number.
 // Bytes that are no whole words are refusal 1 of a declaration file, and 11 of a sheet. It prints `long` where the words are more than it has room for.
+#![tactic(auto)]
+
 ghost use Rattle.std.specs.Prelude.{◌<◌};
 
 use definition::answers::CheckAnswer;
@@ -14,7 +16,7 @@ const SHEET_WORDS: usize = 262144;
 const ROOM_WORDS: usize = 1376256;
 
 // How many words a file has, or why they are not read.
-#[derive(Drop)]
+#[derive(Clone, Copy)]
 enum Input {
     Words(usize),
     Odd,
@@ -23,7 +25,7 @@ enum Input {
 }
 
 // What the next four bytes are.
-#[derive(Drop)]
+#[derive(Clone, Copy)]
 enum Next {
     Word(u32),
     Odd,

@@ -1,4 +1,6 @@
 // Answers as numbers, for C: the refusal's number alone where a function only passes or refuses; else it stands in the high word, and the value in the low one.
+#![tactic(auto)]
+
 ghost use Rattle.std.specs.Prelude.{◌≡◌, ◌*◌, ◌^◌};
 ghost use Rattle.definition.specs.Answers.{acceptance_says, words_say, tree_says, completed_says, sheet_says, check_says, pass_code, value_code};
 ghost use Rattle.memory_definition.specs.Answers.{memory_says, memory_code};

@@ -1,21 +1,21 @@
 // What the public functions answer. Which answer is right, and what is left in the lent words, is in specs/Answers.antt.
 
 // Whether a file is accepted, or the number of its first refusal of 1 to 6.
-#[derive(Drop)]
+#[derive(Clone, Copy)]
 pub enum Acceptance {
     Accepted,
     Refused(u32),
 }
 
 // How many work words a function wants.
-#[derive(Drop)]
+#[derive(Clone, Copy)]
 pub enum WorkWords {
     Words(usize),
     Refused(u32),
 }
 
 // A type's or a variable's tree: its number of nodes.
-#[derive(Drop)]
+#[derive(Clone, Copy)]
 pub enum TreeAnswer {
     Tree(usize),
     None,
@@ -23,7 +23,7 @@ pub enum TreeAnswer {
 }
 
 // A completed initializer: its kind and its number of nodes.
-#[derive(Drop)]
+#[derive(Clone, Copy)]
 pub enum CompletedAnswer {
     Completed(u32, usize),
     Left,
@@ -31,14 +31,14 @@ pub enum CompletedAnswer {
 }
 
 // A start sheet: its number of words.
-#[derive(Drop)]
+#[derive(Clone, Copy)]
 pub enum SheetAnswer {
     Written(usize),
     Refused(u32),
 }
 
 // Whether a sheet passes.
-#[derive(Drop)]
+#[derive(Clone, Copy)]
 pub enum CheckAnswer {
     Passes,
     Refused(u32),

@@ -2,7 +2,7 @@
 // Numbers, links and runs stand as the file has them. `Unknown` is a kind that no accepted file has.
 
 // What a type is: the Rust's `SemanticType`.
-#[derive(Drop)]
+#[derive(Clone, Copy)]
 pub enum Shape {
     Bool,
     Int {
@@ -67,7 +67,7 @@ pub enum Shape {
 }
 
 // How a type is declared: the Rust's `DataTypeDeclarationKind`, or a function block.
-#[derive(Drop)]
+#[derive(Clone, Copy)]
 pub enum Declaration {
     Nothing,
     Simple { initializer: u32 },
@@ -83,7 +83,7 @@ pub enum Declaration {
 }
 
 // The Rust's `InitialValueAssignmentKind`, in the order of the arms of `Resolver::initializer`. The type it names stands apart.
-#[derive(Drop)]
+#[derive(Clone, Copy)]
 pub enum Initializer {
     Nothing,
     Interface,
@@ -104,7 +104,7 @@ pub enum Initializer {
 }
 
 // The Rust's `StructInitialValueAssignmentKind` and `ArrayInitialElementKind`. An entry's name stands apart.
-#[derive(Drop)]
+#[derive(Clone, Copy)]
 pub enum Entry {
     Constant { number: u32 },
     Enumerated { value: u32, qualifier: u32 },
@@ -117,7 +117,7 @@ pub enum Entry {
 }
 
 // The Rust's `ExprKind`.
-#[derive(Drop)]
+#[derive(Clone, Copy)]
 pub enum Expression {
     Constant { number: u32 },
     Enumerated { entry: u32 },
@@ -130,7 +130,7 @@ pub enum Expression {
 }
 
 // The Rust's `ConstantKind`: the same five words in every kind, which a node holds too.
-#[derive(Drop)]
+#[derive(Clone, Copy)]
 pub struct Constant {
     pub kind: u32,
     pub sign: u32,
@@ -140,7 +140,7 @@ pub struct Constant {
 }
 
 // A variable, a field or an element: what it is, and links to its type and its element type where it has them (`Place` of resolver.rs).
-#[derive(Drop)]
+#[derive(Clone, Copy)]
 pub struct Place {
     pub shape: Shape,
     pub id: u32,

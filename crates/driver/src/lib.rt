@@ -1,4 +1,6 @@
 // Types resolved one after another, each remembered as a line of a store: a type that is wanted is resolved first.
+#![tactic(auto)]
+
 pub mod asked;
 pub mod driver;
 pub mod every;

@@ -305,7 +305,7 @@ pub fn array_head(b: Listed, at: usize, from: usize, room: &mut [u32]) -> Built
 }
 
 // A field in a structure: where it stands, its name and its place.
-#[derive(Drop)]
+#[derive(Clone, Copy)]
 pub enum Target {
     At {
         begin: usize,

@@ -24,7 +24,7 @@ use scalar::node;
 use scalar::node::Leaf;
 
 // What a value's link leads to. A late resolved initializer states a constant that gives none.
-#[derive(Drop)]
+#[derive(Clone, Copy)]
 pub enum Stated {
     Constant,
     Enumerated,

@@ -12,7 +12,7 @@ use tree::words::{fits, nodes_fit};
 pub const MOST_WORDS: usize = 268435456;
 
 // Where the lines end then. `Full` where the store has no room for the line; nothing is written then.
-#[derive(Drop)]
+#[derive(Clone, Copy)]
 pub enum Stored {
     Ends(usize),
     Full,

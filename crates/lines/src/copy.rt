@@ -9,7 +9,7 @@ use tree::extent::Extent;
 use tree::words::{copy, nodes_fit};
 
 // What is remembered, with where the copy of a tree ends. `Full` where there is no room for it.
-#[derive(Drop)]
+#[derive(Clone, Copy)]
 pub enum Copied {
     Unknown,
     None,

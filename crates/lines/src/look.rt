@@ -8,7 +8,7 @@ use tree::words::fits;
 pub const HEAD_WORDS: usize = 3;
 
 // A tree with so many nodes lies at a place of the store.
-#[derive(Drop)]
+#[derive(Clone, Copy)]
 pub enum Remembered {
     Unknown,
     None,

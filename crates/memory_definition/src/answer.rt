@@ -1,5 +1,5 @@
 // A variable's start memory: its number of bytes. Which answer is right, and what is left in the lent bytes, is in specs/Answers.antt.
-#[derive(Drop)]
+#[derive(Clone, Copy)]
 pub enum MemoryAnswer {
     Written(usize),
     None,

@@ -1,5 +1,5 @@
 // How a node stands in the controller's memory (document 02, Q-1). Which form a node has is in specs/Forms.antt.
-#[derive(Drop)]
+#[derive(Clone, Copy)]
 pub enum Form {
     // an array's or a structure's head: no byte of its own
     Head,

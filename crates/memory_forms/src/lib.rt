@@ -1,4 +1,6 @@
 // How a node stands in memory, and whether the shape of its place holds it.
+#![tactic(auto)]
+
 pub mod entries;
 pub mod form;
 pub mod held;

@@ -1,1 +1,2 @@
 // What follows from the definition of start memory: only laws, in specs/.
+#![tactic(auto)]

@@ -7,7 +7,7 @@ use definition::records::Shape;
 use tree::extent::parts_of;
 
 // The five words of a shape's record, kind first.
-#[derive(Drop)]
+#[derive(Clone, Copy)]
 struct Words {
     kind: u32,
     a: u32,

@@ -1,4 +1,6 @@
 // The nodes of a tree and their characters, read from bytes along the nodes of a tree of the same parts.
+#![tactic(auto)]
+
 pub mod all;
 pub mod bytes;
 pub mod literal;

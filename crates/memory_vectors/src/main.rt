@@ -1,6 +1,8 @@
 // Replays stored start memory (vectors/memory): a file after its count; its variables after theirs; and a word behind them; until the input ends. vectors/README.md has the words of a variable.
 // Each call has just as many work words as the file wants. Each write is asked for once more with one byte too few, and each read that gives nodes with one word too few of either slice.
 // Prints how many answers were right, and for each that was not the numbers of its file, its variable and itself: 0 written, then the reads.
+#![tactic(auto)]
+
 ghost use Rattle.std.specs.Prelude.{◌<◌, ◌≤◌};
 
 use acceptance::work::{line_words, room_words};
@@ -32,7 +34,7 @@ const NO_BYTES: u32 = 0xFFFF_FFFF;
 
 const TOO_SHORT: u32 = 10;
 
-#[derive(Drop)]
+#[derive(Clone, Copy)]
 enum Replayed {
     Right(u64),
     End,

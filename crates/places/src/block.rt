@@ -12,7 +12,7 @@ use definition::records::Place;
 use records::words::{count, word};
 
 // A block's fields, in-outs among them, or none where no block record is found.
-#[derive(Drop)]
+#[derive(Clone, Copy)]
 pub enum Block {
     Fields { first: u32, count: u32 },
     None,

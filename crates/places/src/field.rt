@@ -22,7 +22,7 @@ use records::view::shape_at;
 use records::words::word;
 
 // A field's or a variable's place, or none.
-#[derive(Drop)]
+#[derive(Clone, Copy)]
 pub enum Found {
     Place(Place),
     None,

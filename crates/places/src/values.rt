@@ -26,7 +26,7 @@ use scalar::node;
 use scalar::node::Leaf;
 
 // The two bounds of a subrange.
-#[derive(Drop)]
+#[derive(Clone, Copy)]
 struct Range {
     least: Constant,
     greatest: Constant,

@@ -1,4 +1,6 @@
 // Prints the table of docs/RANGES.md, its numbers from the table that conversions use. `./test` compares the page with this program's expected output.
+#![tactic(auto)]
+
 use libc::STDOUT_FILENO;
 use ranges::range::depth;
 use ranges::table::{Range, for_integer};

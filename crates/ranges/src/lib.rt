@@ -1,3 +1,5 @@
 // What integer types and subranges hold (value_range.rs). Nothing here reads a file.
+#![tactic(auto)]
+
 pub mod range;
 pub mod table;

@@ -4,7 +4,7 @@ ghost use Rattle.std.specs.Prelude.{◌≡◌};
 ghost use Rattle.ranges.specs.Table.{bounds_of, listed};
 
 // The least and the greatest number of a type; none for a width that is not in the table.
-#[derive(Drop)]
+#[derive(Clone, Copy)]
 pub enum Range {
     Between(i64, u64),
     None,

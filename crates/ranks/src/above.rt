@@ -11,14 +11,14 @@ use records::view::declaration_at;
 use records::words::{run_word, word, word_at};
 
 // Where a type's rank stands: in words at its number, or at the head of its line in a sheet, to which its word of an index leads (crate lines).
-#[derive(Drop)]
+#[derive(Clone, Copy)]
 pub enum RanksIn {
     Words,
     Lines,
 }
 
 // What a type's record leads to.
-#[derive(Drop)]
+#[derive(Clone, Copy)]
 pub enum Run {
     Elements,
     Variables,

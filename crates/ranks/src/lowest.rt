@@ -16,14 +16,14 @@ const IN_PROGRESS: u32 = 1024;
 const UNKNOWN: u32 = 2048;
 
 // The words hold the ranks, or there are none and the words are 0.
-#[derive(Drop)]
+#[derive(Clone, Copy)]
 pub enum Ranked {
     Ranks,
     Circle,
 }
 
 // What the words of the types that a type uses say of its own.
-#[derive(Drop)]
+#[derive(Clone, Copy)]
 pub enum Next {
     Rank(u32),
     First(u32),

@@ -1,4 +1,6 @@
 // A REAL's 64 bits, as its literal has them, as the 32 bits of its memory and back.
+#![tactic(auto)]
+
 ghost use Rattle.std.specs.Prelude.{◌≡◌};
 ghost use Rattle.std.specs.Float.{binary64};
 ghost use Rattle.std.specs.Float.Ieee.{nan_bits};

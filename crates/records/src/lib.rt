@@ -1,3 +1,5 @@
 // Reading declaration files: where each section and each record stands, and one record as a value.
+#![tactic(auto)]
+
 pub mod view;
 pub mod words;

@@ -1,6 +1,8 @@
 // Replays stored files with the Rust's answers (vectors/trees): a file after its count; then, after theirs, the words of its answers as vectors/README.md has them: each type's tree, each
 // variable's, and each completed initializer; until the input ends.
 // Prints how many were right, and for each that was not the numbers of its file, its section (0 types, 1 variables, 2 completed initializers) and itself.
+#![tactic(auto)]
+
 ghost use Rattle.std.specs.Prelude.{◌<◌, ◌≤◌};
 
 use acceptance::work::{line_words, room_words};
@@ -27,7 +29,7 @@ const TYPE_TREES: u32 = 0;
 
 const VARIABLE_TREES: u32 = 1;
 
-#[derive(Drop)]
+#[derive(Clone, Copy)]
 enum Replayed {
     Right(u64),
     End,

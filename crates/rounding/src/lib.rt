@@ -1,4 +1,6 @@
 // An integer as a REAL or an LREAL: rounded once to the nearest value, ties to even, and given as the bits of an f64 (the Rust's `as f64` and `as f32`).
+#![tactic(auto)]
+
 ghost use Rattle.std.specs.Prelude.{◌≡◌, ◌^◌, false, to_bits};
 ghost use Rattle.std.specs.Float.{binary32, binary64};
 ghost use Rattle.std.specs.Float.Ieee.{round};

@@ -10,7 +10,7 @@ use plain::words::is_name;
 use records::words::word;
 
 // What every record of a run has to meet.
-#[derive(Drop)]
+#[derive(Clone, Copy)]
 pub enum Rule {
     // a shape field whose shape is lower
     FieldBelow { shape: u32 },

@@ -11,7 +11,7 @@ use definition::layout::SECTIONS;
 use records::words::count;
 
 // What a scan holds records to: their plain words (refusal 3), or what they point at (refusal 4).
-#[derive(Drop)]
+#[derive(Clone, Copy)]
 pub enum Scan {
     Words,
     Points,

@@ -5,7 +5,7 @@ ghost use Rattle.definition.specs.Tree.{flatten, constant_tree, enumerated_tree,
 use definition::records::Constant;
 
 // What a place's node holds behind its name, or none.
-#[derive(Drop)]
+#[derive(Clone, Copy)]
 pub enum Leaf {
     Value(Constant),
     None,

@@ -7,7 +7,7 @@ use crate::node::Leaf;
 use definition::records::Constant;
 
 // The most characters that a string holds, or none for a length that no string may have.
-#[derive(Drop)]
+#[derive(Clone, Copy)]
 pub enum MaxLength {
     Most(u32),
     None,

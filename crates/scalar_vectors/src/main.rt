@@ -1,6 +1,8 @@
 // Replays stored conversions (vectors/scalars): a file after its count; then, after their number, pairs of a shape and a constant of it, each with 0 for a value or 1 for none, and with what
 // the first six words of the lent slice hold afterwards; until the input ends.
 // Prints how many were right, and the shape and the constant of each that was not.
+#![tactic(auto)]
+
 ghost use Rattle.std.specs.Prelude.{◌<◌, ◌≤◌};
 
 use start_values::convert::wirkesu_convert;
@@ -14,7 +16,7 @@ const MOST_FILES: usize = 1000;
 // What the words of the lent slice are before a conversion.
 const LENT: u32 = 0xA5A5_A5A5;
 
-#[derive(Drop)]
+#[derive(Clone, Copy)]
 enum Replayed {
     Right(u64),
     End,

@@ -10,7 +10,7 @@ use definition::layout::{DIMENSIONS, MEMBERS, SHAPE_FIELDS};
 use records::words::run_word;
 
 // What a run lists.
-#[derive(Drop)]
+#[derive(Clone, Copy)]
 pub enum Listing {
     Members,
     Fields,

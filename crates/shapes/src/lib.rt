@@ -1,4 +1,6 @@
 // Comparing shapes: refusals 5 and 6, and the classes of shapes that the Rust's `==` calls equal.
+#![tactic(auto)]
+
 pub mod alike;
 pub mod arrays;
 pub mod classes;

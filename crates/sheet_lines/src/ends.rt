@@ -8,7 +8,7 @@ use tree::extent::{Extent, is_tree};
 use tree::words::fits;
 
 // The lines of the three sections.
-#[derive(Drop)]
+#[derive(Clone, Copy)]
 pub enum Form {
     Types,
     Variables,

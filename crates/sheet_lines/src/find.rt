@@ -9,7 +9,7 @@ use records::words::count;
 use tree::extent::Extent;
 
 // Where the counts of the second and the third section stand. The first section begins at 0, and each first line stands behind its section's count.
-#[derive(Drop)]
+#[derive(Clone, Copy)]
 pub enum Lines {
     Found { variables: usize, completed: usize },
     Unreadable,

@@ -22,7 +22,7 @@ use records::words::count;
 const MOST_SHEET_WORDS: usize = 113280000;
 
 // A refusal, or where the counts of the second and the third section stand. The index then leads to each type's line.
-#[derive(Drop)]
+#[derive(Clone, Copy)]
 pub enum Tested {
     Refused(u32),
     Comparable { variables: usize, completed: usize },

@@ -1,4 +1,6 @@
 // The lines and sections of a start sheet, from the remembered lines of all types.
+#![tactic(auto)]
+
 pub mod line;
 pub mod part;
 pub mod put;

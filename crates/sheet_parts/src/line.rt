@@ -10,7 +10,7 @@ use lines::look::Remembered;
 
 // `first` is a type's rank, or says whether a completed initializer is left; a variable's line has no such word. `state` is that of a value, or the kind of
 // a completed initializer. The nodes lie at a place of a store or of a room.
-#[derive(Drop)]
+#[derive(Clone, Copy)]
 pub struct Line {
     pub first: u32,
     pub state: u32,

@@ -16,7 +16,7 @@ use definition::layout::VARIABLES;
 use records::words::count;
 
 // A number of words, or a place, for each of the two sections.
-#[derive(Drop)]
+#[derive(Clone, Copy)]
 pub struct Both {
     pub value: usize,
     pub completed: usize,

@@ -1,4 +1,6 @@
 // The sheet program (document 01, after the examples): reads a file's bytes from standard input and prints its sheet, `long` or a refusal.
+#![tactic(auto)]
+
 use libc::{STDIN_FILENO, STDOUT_FILENO};
 use sheet_text::file::SHEET_WORDS;
 use sheet_text::input::{MOST_TEXT, sheet_text};

@@ -1,6 +1,8 @@
 // Replays stored files with their sheets (vectors/sheets): a file after its count; what the writer refuses, 0 or 9; the words of a sheet after their count; and changes of one word of it
 // after their count: the word's place, what it becomes, and what the check then answers; until the input ends.
 // Prints how many answers were right, and for each that was not the numbers of its file and itself: 0 written, 1 checked, then the changes.
+#![tactic(auto)]
+
 ghost use Rattle.std.specs.Prelude.{◌<◌, ◌≤◌};
 
 use definition::answers::{CheckAnswer, SheetAnswer};
@@ -20,7 +22,7 @@ const LENT: u32 = 0xA5A5_A5A5;
 
 const NO_RANKS: u32 = 12;
 
-#[derive(Drop)]
+#[derive(Clone, Copy)]
 enum Replayed {
     Right(u64),
     End,

@@ -1,4 +1,6 @@
 // The functions that C and Rust link, over numbers and slices. What each number says is `pass_code` and `value_code` of the definition (specs/Answers.antt).
+#![tactic(auto)]
+
 ghost use Rattle.std.specs.Prelude.{◌≡◌};
 ghost use Rattle.definition.specs.Answers.{accept_answer, words_answer, line_words, room_words, pass_code, value_code};
 

@@ -1,4 +1,6 @@
 // The bytes that the sheet program prints (document 01, after the examples), put into lent bytes, each behind those before.
+#![tactic(auto)]
+
 pub mod line;
 pub mod number;
 pub mod put;

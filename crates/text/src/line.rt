@@ -9,7 +9,7 @@ use crate::number::put_number;
 use crate::put::put_byte;
 
 // Where the next word is read, and where its text is put.
-#[derive(Drop)]
+#[derive(Clone, Copy)]
 pub struct Places {
     pub word: usize,
     pub byte: usize,

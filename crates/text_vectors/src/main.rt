@@ -1,5 +1,7 @@
 // Replays stored runs of the sheet program (vectors/sheets): the bytes that it reads after their count, and those that it prints after theirs, until the input ends.
 // The work words are as many as it lends. Prints how many runs were right, and the number of each that was not.
+#![tactic(auto)]
+
 ghost use Rattle.std.specs.Prelude.{◌<◌, ◌≤◌};
 
 use libc::STDIN_FILENO;
@@ -15,14 +17,14 @@ const MOST_RUNS: usize = 1000;
 // 69 levels of 24,576 words.
 const ROOM_WORDS: usize = 1695744;
 
-#[derive(Drop)]
+#[derive(Clone, Copy)]
 enum Replayed {
     Right(u64),
     End,
 }
 
 // A count of the input, then so many bytes to the front of a slice.
-#[derive(Drop)]
+#[derive(Clone, Copy)]
 enum Part {
     Bytes(usize),
     End,

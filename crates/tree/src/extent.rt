@@ -6,7 +6,7 @@ ghost use Rattle.tree.specs.Extent.{after_of, whole_of, tree_of};
 use definition::layout::NODE_WORDS;
 
 // Where words end, or that they are not there.
-#[derive(Drop)]
+#[derive(Clone, Copy)]
 pub enum Extent {
     Ends(usize),
     Not,

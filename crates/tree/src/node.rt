@@ -9,7 +9,7 @@ use crate::extent::Extent;
 use crate::words::fits;
 use definition::layout::NODE_WORDS;
 
-#[derive(Drop)]
+#[derive(Clone, Copy)]
 pub struct Node {
     pub name: u32,
     pub kind: u32,
@@ -20,7 +20,7 @@ pub struct Node {
 }
 
 // The node at a place, or that the words end before it does.
-#[derive(Drop)]
+#[derive(Clone, Copy)]
 pub enum NodeAt {
     Is(Node),
     Past,

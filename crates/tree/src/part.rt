@@ -7,7 +7,7 @@ use crate::node::{NodeAt, read};
 use definition::layout::NODE_WORDS;
 
 // A value's kind, with how many parts it has.
-#[derive(Drop)]
+#[derive(Clone, Copy)]
 pub enum Value {
     Leaf,
     Array(u32),
@@ -16,7 +16,7 @@ pub enum Value {
 }
 
 // Where a part begins and ends.
-#[derive(Drop)]
+#[derive(Clone, Copy)]
 pub enum Found {
     At(usize, usize),
     Nothing,

@@ -1,4 +1,6 @@
 // What tools/measure_tree links: a part that is replaced, and a plain copy to measure it against.
+#![tactic(auto)]
+
 ghost use Rattle.tree_c.specs.Ends.{span, ReplacedTo, CopiedTo};
 
 use tree::extent::Extent;

@@ -11,14 +11,14 @@ use tree::node::set_name;
 use tree::words::{copies, copy, fits, move_words, nodes_fit};
 
 // Words from a place up to another.
-#[derive(Drop)]
+#[derive(Clone, Copy)]
 pub struct Span {
     pub begin: usize,
     pub end: usize,
 }
 
 // Where a tree or a run ends that has grown; too large; or that its places are not within the words.
-#[derive(Drop)]
+#[derive(Clone, Copy)]
 pub enum Grown {
     Ends(usize),
     TooLarge,

@@ -7,7 +7,7 @@ use definition::layout::MOST_NODES;
 use tree::words::fits;
 
 // Whether values fit behind those that there are, or what they would be first: too large, or too many for the places.
-#[derive(Drop)]
+#[derive(Clone, Copy)]
 pub enum Added {
     Fits,
     TooMany,

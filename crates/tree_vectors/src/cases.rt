@@ -7,7 +7,7 @@ use tree_changes::grow::{Grown, Span};
 use tree_changes::{grow, limit};
 
 // The numbers behind the function's and the words' own.
-#[derive(Drop)]
+#[derive(Clone, Copy)]
 pub struct Case {
     pub a: u32,
     pub b: u32,

@@ -1,4 +1,6 @@
 // Runs the stored cases over the functions of `tree` and prints a line for each. What the lines must be comes from model.py, which also wrote the cases.
+#![tactic(auto)]
+
 ghost use Rattle.std.specs.Prelude.{◌+◌, ◌≤◌, length};
 
 mod cases;
@@ -10,7 +12,7 @@ const HEAD_WORDS: usize = 10;
 // In place of a number of words: those of the case before.
 const SAME: usize = 4294967295;
 
-#[derive(Drop)]
+#[derive(Clone, Copy)]
 struct Kept {
     first: usize,
     count: usize,

@@ -1,9 +1,11 @@
 // What programs that replay stored vectors read and print: words from standard input, each of four bytes, the least first, and numbers, each on its line.
+#![tactic(auto)]
+
 ghost use Rattle.std.specs.Prelude.{◌<◌};
 
 use libc::{STDIN_FILENO, STDOUT_FILENO};
 
-#[derive(Drop)]
+#[derive(Clone, Copy)]
 pub enum Got {
     Word(u32),
     End,

@@ -12,7 +12,7 @@ use sheet_parts::types::{count_types, put_types};
 use sheet_parts::variables::{Both, count_variables, put_variables};
 
 // Where the two sections of variables begin, and where the sheet ends.
-#[derive(Drop)]
+#[derive(Clone, Copy)]
 pub struct Places {
     pub value: usize,
     pub completed: usize,

@@ -1,0 +1,37 @@
+-- `view::entry_of` meets its contract. Assumes nothing.
+use Rattle.definition.specs.Records.{entry_of}
+use mathlib.Core.Path.{refl}
+use Rattle.records.proofs.Listed.{behind}
+use Rattle.records.proofs.view.entry_of.Goals as goal
+
+pub returns-in-0 : goal.returns-in-0
+unfolding entry_of
+returns-in-0 c = rw c.in-0.is (refl)
+
+pub returns-in-1 : goal.returns-in-1
+unfolding entry_of
+returns-in-1 c = rw c.in-1.is (refl)
+
+pub returns-in-2 : goal.returns-in-2
+unfolding entry_of
+returns-in-2 c = rw c.in-2.is (refl)
+
+pub returns-in-3 : goal.returns-in-3
+unfolding entry_of
+returns-in-3 c = rw c.in-3.is (refl)
+
+pub returns-in-4 : goal.returns-in-4
+unfolding entry_of
+returns-in-4 c = rw c.in-4.is (refl)
+
+pub returns-in-5 : goal.returns-in-5
+unfolding entry_of
+returns-in-5 c = rw c.in-5.is (refl)
+
+pub returns-in-6 : goal.returns-in-6
+unfolding entry_of
+returns-in-6 c = rw c.in-6.is (refl)
+
+pub returns-in_default : goal.returns-in_default
+unfolding entry_of
+returns-in_default c = let a = c.args in behind (λ k. entry_of k a.a a.b) 7 a.kind c.in_default.in_default-own.rest (λ j. refl)

@@ -1,0 +1,17 @@
+-- `words::find_sections` meets its contract: the starts found so far are the file's. Assumes nothing.
+use Prim.Native.Nat.{◌-◌}
+use borrow.Author.Rules.{rules}
+use Rattle.records.proofs.Starting.{first-start, next_start, all-starts, start-most}
+use Rattle.records.proofs.words.find_sections.Goals as goal
+
+pub loop-s-init : goal.loop-s-init
+loop-s-init c = search (rules, first-start)
+
+pub section_end-end-requires : goal.section_end-end-requires
+section_end-end-requires c = search (rules, start-most)
+
+pub loop-s-preserved : goal.loop-s-preserved
+loop-s-preserved c = search (rules, next_start)
+
+pub returns : goal.returns
+returns c = search (rules, all-starts)
