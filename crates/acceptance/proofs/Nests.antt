@@ -7,7 +7,7 @@ use native.Mathlib.Omega.{arith}
 use native.Mathlib.Numerals.{add-one}
 use lib.Dec.{ltb}
 use lib.ListN.{length, get_or, take, replicate, get_or-eq_default}
-use borrow.Author.Rules.{rules, zero≤}
+use borrow.Author.Rules.{rules}
 use borrow.Author.Tests.{ltb-true, ltb-false}
 use Rattle.definition.specs.Base.{on_link}
 use Rattle.definition.specs.Layout.{shapes, shape_fields, entries, count, word}
@@ -83,7 +83,7 @@ unfolding entry_of entry_depth_from
 flat-entry below kind a b p q r = go (ltb kind 2) (ltb kind 6) refl refl
   where
     go : (s t : Bool) → ltb kind 2 ≡ s → ltb kind 6 ≡ t → 1 ≡ entry_depth_from below (entry_of kind a b)
-    go true t x y = in-run (λ k. entry_depth_from below (entry_of k a b)) 0 2 kind zero≤ (ltb-true kind 2 x) (refl, (refl, tt)) refl
+    go true t x y = in-run (λ k. entry_depth_from below (entry_of k a b)) 0 2 kind (omega arith) (ltb-true kind 2 x) (refl, (refl, tt)) refl
     go false true x y =
         let m = ltb-false kind 2 x in
         in-run (λ k. entry_depth_from below (entry_of k a b)) 4 2 kind (omega (arith, p, q)) (ltb-true kind 6 y) (refl, (refl, tt)) refl
@@ -112,7 +112,7 @@ flat-shape f below kind a b c d p q = go (ltb kind 11) (ltb kind 17) refl refl
   where
     go : (s t : Bool) → ltb kind 11 ≡ s → ltb kind 17 ≡ t → 1 ≡ shape_depth_from f below (shape_of kind a b c d)
     go true t x y =
-        in-run (λ k. shape_depth_from f below (shape_of k a b c d)) 0 11 kind zero≤ (ltb-true kind 11 x)
+        in-run (λ k. shape_depth_from f below (shape_of k a b c d)) 0 11 kind (omega arith) (ltb-true kind 11 x)
         (refl, (refl, (refl, (refl, (refl, (refl, (refl, (refl, (refl, (refl, (refl, tt))))))))))) refl
     go false true x y =
         let m = ltb-false kind 11 x in
@@ -164,7 +164,7 @@ module _ {f : List ℕ} (a : Accepted f) (nesting : Nesting) {n : ℕ} {lent wor
           rw (table_at (depth_of f nesting) n k 0 h) (small-depth a nesting k m)
       go k false q =
           let h : length (table_of (depth_of f nesting) n) ≤ k = omega (arith, ltb-false k n q, table-length (depth_of f nesting) n) in
-          rw (get_or-eq_default (table_of (depth_of f nesting) n) 0 h) zero≤
+          rw (get_or-eq_default (table_of (depth_of f nesting) n) 0 h) (omega arith)
 
   pub depth-next : n < count_of f nesting → {d : ℕ} → d ≡ depth_from f nesting (depth_in (take n words)) n → d ≡ depth_of f nesting n
   depth-next h e = e ∙ rw (filled-part i) (from-lower a nesting (depth_in (table_of (depth_of f nesting) n)) n h (λ j l. table_at (depth_of f nesting) n j 0 l))

@@ -7,14 +7,11 @@ use types.Run.{OneOf, miss}
 use denote.Enum.Declared.{tag_of}
 use Rattle.definition.specs.contracts.records.Shape.{the_type}
 use Rattle.definition.specs.declared.records.Shape.{Shape}
+use Rattle.definition.specs.declared.records.Shape.TheVariants as shape
 use Rattle.definition.specs.Shapes.{on_shape, on_enumeration, on_array, is_reference}
 use Rattle.places.specs.Shapes.{on-kind}
 
--- every shape but the array
-abbrev unlisted : List ℕ
-unlisted = 0 ∷ 1 ∷ 2 ∷ 3 ∷ 4 ∷ 5 ∷ 6 ∷ 7 ∷ 8 ∷ 9 ∷ 10 ∷ 11 ∷ 13 ∷ 14 ∷ 15 ∷ 16 ∷ 17 ∷ []
-
--- but the structure and the function block
+-- every shape but the structure and the function block
 abbrev fieldless : List ℕ
 fieldless = 0 ∷ 1 ∷ 2 ∷ 3 ∷ 4 ∷ 5 ∷ 6 ∷ 7 ∷ 8 ∷ 9 ∷ 10 ∷ 12 ∷ 13 ∷ 15 ∷ 16 ∷ 17 ∷ []
 
@@ -31,7 +28,7 @@ abbrev pub Among : List ℕ → Shape → Type 0
 Among kinds s = OneOf kinds (tag_of the_type s)
 
 abbrev pub NoArray : Shape → Type 0
-NoArray s = Among unlisted s
+NoArray s = (element first count : ℕ) → s ≡ shape.Array element first count → ⊥
 
 abbrev pub NoFields : Shape → Type 0
 NoFields s = Among fieldless s
@@ -46,7 +43,7 @@ module _ {X : Type 0} (x : X) (s : Shape) where
   pub no-array : (array : ℕ → ℕ → ℕ → X) → NoArray s → x ≡ on_array s x array
   no-array array h =
       on-kind (λ y. x ≡ y) s _ _ _ _ _ _ _ (λ a b. refl) (λ a b c d e. refl) (λ a b e. refl)
-      (λ n a b e. absurd (miss unlisted 12 tt (rw e at h))) (λ n e. refl) (λ n e. refl) refl
+      (λ n a b e. absurd (h n a b e)) (λ n e. refl) (λ n e. refl) refl
 
   pub no_fields : (structure : ℕ → ℕ → X) (block : Unit {0} → X) → NoFields s
       → x ≡ on_shape s (λ a b. x) (λ a b. x) structure (λ e a b. x) block (λ u. x) (λ u. x)

@@ -30,7 +30,7 @@ member_entry-requires c = search rules
 
 pub returns-in-FieldBelow : goal.returns-in-FieldBelow
 unfolding meets
-returns-in-FieldBelow c = rw (c.rule-1.in-FieldBelow-own.given.1, c.word.ensures)
+returns-in-FieldBelow c = rw (c.in-FieldBelow.is, c.word.ensures)
 
 pub returns-in-ArrayEntry : goal.returns-in-ArrayEntry
 unfolding meets

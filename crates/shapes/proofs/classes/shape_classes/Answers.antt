@@ -40,7 +40,7 @@ pub loop-n-smaller : goal.loop-n-smaller
 loop-n-smaller c = search classing
 
 pub loop-n-preserved : goal.loop-n-preserved
-loop-n-preserved c = let i = c.loop.invariant in (search rules, search rules, simp length-set (search rules), i.3, i.4, i.5, one-filled i.6 (omega arith) (class-next _ i.6 i.5 (omega arith) c.first_like-class.ensures))
+loop-n-preserved c = let i = c.loop-n.invariant in (search rules, search rules, simp length-set (search rules), i.3, i.4, i.5, one-filled i.6 (omega arith) (class-next _ i.6 i.5 (omega arith) c.first_like-class.ensures))
 
 pub shape_of-words : goal.shape_of-words
 shape_of-words c = search classing
