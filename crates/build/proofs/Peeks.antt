@@ -43,10 +43,10 @@ then-assoc (wants d) g h = refl
 
 -- ---- an answer that is no end
 abbrev pub NoEnd : Built → Type 0
-NoEnd r = (tag_of the_type r ≡ 1) ⊎ ((tag_of the_type r ≡ 2) ⊎ (tag_of the_type r ≡ 3))
+NoEnd r = (end : ℕ) → r ≡ Ends end → ⊥
 
 pub ends-not : {X : Type 0} (e : ℕ) → NoEnd (Ends e) → X
-ends-not e k = absurd (⊎_elim (λ e. omega arith) (λ e. ⊎_elim (λ f. omega arith) (λ f. omega arith) e) k)
+ends-not e k = absurd (k e refl)
 
 module _ {A B : Type 0} {words : A → List ℕ} {at : ℕ} {r : Built} {new : List ℕ} (vords : B → List ℕ) (to : ℕ) (other : List ℕ) (n : NoEnd r) where
   pub gives-fails : (p : Peek (Result A)) → Gives words p at r new → (g : A → Peek (Result B)) → Gives vords (then_peek p g) to r other

@@ -23,7 +23,7 @@ use places::place::element_place;
 use records::words::word;
 
 // A place starts at its type's default, or at the implicit default of its shape.
-#[cycle(default_of_element_defaults_field_default_fields_implicit)]
+#[cycle(defaults_of_places)]
 pub fn default_of(
     file: &[u32],
     source: &[usize],
@@ -44,7 +44,7 @@ pub fn default_of(
 }
 
 // The default of a place that nothing declares one for.
-#[cycle(default_of_element_defaults_field_default_fields_implicit)]
+#[cycle(defaults_of_places)]
 pub fn implicit(
     file: &[u32],
     source: &[usize],
@@ -98,7 +98,7 @@ pub fn implicit(
 }
 
 // One field at `to`, under the head at `at`.
-#[cycle(default_of_element_defaults_field_default_fields_implicit)]
+#[cycle(defaults_of_places)]
 fn field_default(
     file: &[u32],
     source: &[usize],
@@ -126,7 +126,7 @@ fn field_default(
 }
 
 // All fields of a structure or a block, under their head.
-#[cycle(default_of_element_defaults_field_default_fields_implicit)]
+#[cycle(defaults_of_places)]
 fn fields(
     file: &[u32],
     source: &[usize],
@@ -166,7 +166,7 @@ fn fields(
 }
 
 // Every element's default, listed flat under an array's head.
-#[cycle(default_of_element_defaults_field_default_fields_implicit)]
+#[cycle(defaults_of_places)]
 pub fn element_defaults(
     file: &[u32],
     source: &[usize],

@@ -1,4 +1,5 @@
 -- Arrays and members: the rest of the returns of entries.rt. Assumes nothing.
+use borrow.Enum.Refused.{opened}
 use mathlib.Core.Path.{◌≡◌, refl, ap, sym, ◌∙◌}
 use mathlib.Core.Bool.{Bool, true, false}
 use mathlib.Core.Logic.{inl, inr}
@@ -581,6 +582,6 @@ over-there f n {begin} {upto} {old} {at} {b} {mid} c {end} q g y =
     let d : Taken y.tree at end mid = rw q at (c.says y.tree (current-less y.there 12288 (omega arith))) in
     record { fields = parts y.tree; there = record { stands = d.stands; whole = gathered-parts y.tree y.there.good y.there.few; room = omega (arith, y.there.room) } }
 
-pub ruleset building = (rules, array-short, array-built, fill_fails, fill-filled, values-filled, apply-first, apply-all, apply-fails, apply-more, set-none, set-done, member-array, member-structure, member-simple, over-fails, over-applied)
+pub ruleset building = (rules, opened, array-short, array-built, fill_fails, fill-filled, values-filled, apply-first, apply-all, apply-fails, apply-more, set-none, set-done, member-array, member-structure, member-simple, over-fails, over-applied)
 
 pub ruleset asked = (lower, fill-there, elements-there, values-there, run-there, apply-there, target-there, over-there, target-in, rest-begins, rest-scaled)

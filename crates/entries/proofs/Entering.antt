@@ -1,4 +1,5 @@
 -- A law for each return of entries.rt, and what its calls require. Assumes nothing.
+use borrow.Enum.Refused.{opened}
 use mathlib.Core.Path.{◌≡◌, refl, ap, sym, ◌∙◌}
 use mathlib.Core.List.{List, [], ◌∷◌}
 use Prim.Native.Nat.{ℕ, zero, suc, ◌+◌, ◌-◌, ◌*◌, ◌≤◌, ◌<◌}
@@ -269,6 +270,6 @@ left_there f e {s} {l} {left} {at} r y =
       ready = record { defaults = r.says s y.trees at y.ready.defaults; few = omega (arith, r.none_made); small = omega (arith, r.no_size); room = omega (arith, y.ready.room) };
     }
 
-pub ruleset lower = (rules, structure-there, repeat-there, member-there, array-there, link-there, left_there, structure-falls, structure-run, repeat-falls, repeat-link, member-falls, array-falls, array-run, run_fits, run-next, link-entry, link-falls, run-falls, members-fall, leaf-inside)
+pub ruleset lower = (rules, opened, structure-there, repeat-there, member-there, array-there, link-there, left_there, structure-falls, structure-run, repeat-falls, repeat-link, member-falls, array-falls, array-run, run_fits, run-next, link-entry, link-falls, run-falls, members-fall, leaf-inside)
 
-pub ruleset entering = (rules, expand-structure, expand-repeat, expand-simple, repeats-defaults, repeats-entry, entry-many, entry-copied)
+pub ruleset entering = (rules, opened, expand-structure, expand-repeat, expand-simple, repeats-defaults, repeats-entry, entry-many, entry-copied)

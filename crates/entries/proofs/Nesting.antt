@@ -1,4 +1,5 @@
 -- Structures, arrays and runs: the other returns of entries.rt. Assumes nothing.
+use borrow.Enum.Refused.{opened}
 use mathlib.Core.Path.{◌≡◌, refl, ap, sym, ◌∙◌}
 use mathlib.Core.List.{List, [], ◌∷◌}
 use Prim.Native.Nat.{ℕ, suc, ◌+◌, ◌-◌, ◌*◌, ◌≤◌, ◌<◌}
@@ -229,4 +230,4 @@ all_there {f} {known} {store} {first} {many} {leaf} {l} {old} {at} {i} {from} {t
           (omega (arith, z.room, v.small.room, v.ends, y.long, entry-depth-least f gv.accepted (first + i) (omega arith)));
     }
 
-pub ruleset nesting = (rules, default-there, all_there, structure-pushed, structure-fails, all_first, all-all, all-fails, all_more)
+pub ruleset nesting = (rules, opened, default-there, all_there, structure-pushed, structure-fails, all_first, all-all, all-fails, all_more)

@@ -25,7 +25,7 @@ use tree::extent::Extent;
 use tree::node::write_array;
 
 // The values that an entry appends to an array's, for places like `leaf`, where the array's defaults stand in the room.
-#[cycle(apply_members_array_expand_expand_all_fill_fill_values_member_member_structure_push_repeat_push_structure_repeat_entry_set_member)]
+#[cycle(entries_of_places)]
 pub fn expand(
     file: &[u32],
     source: &[usize],
@@ -53,7 +53,7 @@ pub fn expand(
 }
 
 // n(..) repeats an entry; n() takes each place's own default.
-#[cycle(apply_members_array_expand_expand_all_fill_fill_values_member_member_structure_push_repeat_push_structure_repeat_entry_set_member)]
+#[cycle(entries_of_places)]
 pub fn push_repeat(
     file: &[u32],
     source: &[usize],
@@ -87,7 +87,7 @@ pub fn push_repeat(
 }
 
 // The entry is expanded once, and copied.
-#[cycle(apply_members_array_expand_expand_all_fill_fill_values_member_member_structure_push_repeat_push_structure_repeat_entry_set_member)]
+#[cycle(entries_of_places)]
 pub fn repeat_entry(
     file: &[u32],
     source: &[usize],
@@ -112,7 +112,7 @@ pub fn repeat_entry(
 }
 
 // Members over the default of the next place.
-#[cycle(apply_members_array_expand_expand_all_fill_fill_values_member_member_structure_push_repeat_push_structure_repeat_entry_set_member)]
+#[cycle(entries_of_places)]
 pub fn push_structure(
     file: &[u32],
     source: &[usize],
@@ -139,7 +139,7 @@ pub fn push_structure(
 }
 
 // A run of entries, one behind the other.
-#[cycle(apply_members_array_expand_expand_all_fill_fill_values_member_member_structure_push_repeat_push_structure_repeat_entry_set_member)]
+#[cycle(entries_of_places)]
 pub fn expand_all(
     file: &[u32],
     source: &[usize],
@@ -199,7 +199,7 @@ pub fn expand_all(
 }
 
 // An array of a run of entries: its head, then the rest of the room is lent to be filled with them.
-#[cycle(apply_members_array_expand_expand_all_fill_fill_values_member_member_structure_push_repeat_push_structure_repeat_entry_set_member)]
+#[cycle(entries_of_places)]
 pub fn array(
     file: &[u32],
     source: &[usize],
@@ -233,7 +233,7 @@ pub fn array(
 }
 
 // Its element defaults, and the values of the entries over them.
-#[cycle(apply_members_array_expand_expand_all_fill_fill_values_member_member_structure_push_repeat_push_structure_repeat_entry_set_member)]
+#[cycle(entries_of_places)]
 pub fn fill(
     file: &[u32],
     source: &[usize],
@@ -262,7 +262,7 @@ pub fn fill(
 }
 
 // The values stand behind the defaults, and take the place of the leading ones.
-#[cycle(apply_members_array_expand_expand_all_fill_fill_values_member_member_structure_push_repeat_push_structure_repeat_entry_set_member)]
+#[cycle(entries_of_places)]
 pub fn fill_values(
     file: &[u32],
     source: &[usize],
@@ -290,7 +290,7 @@ pub fn fill_values(
 }
 
 // A member list over the structure that stands in the room (`members`).
-#[cycle(apply_members_array_expand_expand_all_fill_fill_values_member_member_structure_push_repeat_push_structure_repeat_entry_set_member)]
+#[cycle(entries_of_places)]
 pub fn apply_members(
     file: &[u32],
     source: &[usize],
@@ -320,7 +320,7 @@ pub fn apply_members(
 }
 
 // One member of the list.
-#[cycle(apply_members_array_expand_expand_all_fill_fill_values_member_member_structure_push_repeat_push_structure_repeat_entry_set_member)]
+#[cycle(entries_of_places)]
 pub fn set_member(
     file: &[u32],
     source: &[usize],
@@ -350,7 +350,7 @@ pub fn set_member(
 }
 
 // What an entry gives a member, whose value so far stands in the room.
-#[cycle(apply_members_array_expand_expand_all_fill_fill_values_member_member_structure_push_repeat_push_structure_repeat_entry_set_member)]
+#[cycle(entries_of_places)]
 pub fn member(
     file: &[u32],
     source: &[usize],
@@ -381,7 +381,7 @@ pub fn member(
 }
 
 // Members over the value that a member has so far: a structure is taken apart or the answer is none.
-#[cycle(apply_members_array_expand_expand_all_fill_fill_values_member_member_structure_push_repeat_push_structure_repeat_entry_set_member)]
+#[cycle(entries_of_places)]
 pub fn member_structure(
     file: &[u32],
     source: &[usize],

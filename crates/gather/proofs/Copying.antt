@@ -1,4 +1,5 @@
 -- A law for each return of copies.rt, and what its calls require. Assumes nothing.
+use borrow.Enum.Refused.{opened}
 use mathlib.Core.Path.{◌≡◌, refl, ap, sym, ◌∙◌}
 use mathlib.Core.Bool.{Bool, true, false, ◌&&◌, ◌||◌}
 use mathlib.Core.List.{List, [], ◌∷◌}
@@ -550,6 +551,6 @@ pub ruleset laws = (
   remains-from,
 )
 
-pub ruleset pushes = (rules, count_fits, size_fits, words-many, words-large, words-pushed, words-full)
+pub ruleset pushes = (rules, opened, count_fits, size_fits, words-many, words-large, words-pushed, words-full)
 
-pub ruleset lists = (rules, made-mul, made-add, size-mul, size-add, list-ends, list-not-large, list-not-there, list-large, list-many, copies-ends, copies-none, copies-large, copies-wanted)
+pub ruleset lists = (rules, opened, made-mul, made-add, size-mul, size-add, list-ends, list-not-large, list-not-there, list-large, list-many, copies-ends, copies-none, copies-large, copies-wanted)

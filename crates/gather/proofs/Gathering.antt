@@ -1,4 +1,5 @@
 -- Values that are gathered one entry after another: what is there so far, and what is left. Assumes nothing.
+use borrow.Enum.Refused.{opened}
 use mathlib.Core.Path.{◌≡◌, refl, ap, sym, ◌∙◌}
 use mathlib.Core.List.{List, []}
 use Prim.Native.Nat.{ℕ, zero, suc, ◌+◌, ◌-◌, ◌*◌, ◌≤◌, ◌<◌}
@@ -313,4 +314,4 @@ module _ (k : ℕ) {l : Filling} {old : List ℕ} {at : ℕ} where
   pub defaults-many : l.places < k → PushesDefaults k l old at listed.None old
   defaults-many h = record { says = λ M ds z. rw (z.defaults.count, lt-leb k l.places h) (record { kept = refl; lists = peek-nothing M }) }
 
-pub ruleset laws = (rules, each_first, each_all, each-fails, each_more, defaults-each, defaults-many)
+pub ruleset laws = (rules, opened, each_first, each_all, each-fails, each_more, defaults-each, defaults-many)

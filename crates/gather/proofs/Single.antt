@@ -1,4 +1,5 @@
 -- A law for each return of leaves.rt, and what its calls require. Assumes nothing.
+use borrow.Enum.Refused.{opened}
 use mathlib.Core.Path.{◌≡◌, refl, ap, sym, ◌∙◌}
 use mathlib.Core.Bool.{Bool, true, false}
 use mathlib.Core.List.{List, [], ◌∷◌, ◌++◌, append_assoc}
@@ -208,7 +209,7 @@ module _ (f : List ℕ) (e : ℕ) (place : Place) {v : Leaf} (q : as_tree (resul
 pub place-shape : {f : List ℕ} {place : Place} → PlaceIn f place → ShapeIn f place.shape
 place-shape i = i.shape
 
-pub ruleset simples = (rules, simple-pushed, simple-put, place-shape)
+pub ruleset simples = (rules, opened, simple-pushed, simple-put, place-shape)
 
 pub ruleset laws = (
   rules,

@@ -1,4 +1,5 @@
 -- A law for each return of cell.rt and of `narrow`. Assumes nothing.
+use borrow.Enum.Refused.{opened}
 use mathlib.Core.Path.{◌≡◌, refl, ap, sym, ◌∙◌}
 use mathlib.Core.Bool.{Bool, true, false, not, ◌&&◌}
 use mathlib.Core.List.{List, [], ◌∷◌}
@@ -204,6 +205,6 @@ module _ (f : List ℕ) (s : Shape) (n : Node) {x : Form} (is : x ≡ form_at f 
       go (form.Enumeration first many) k = refl
       go form.Nothing k = refl
 
-pub ruleset standing = (rules, size-some, below_put, above-put, number-within, string-few, room-null, room-bool, room-number, room-real, room-long-real, room-string, room-member, put-head, put-nothing, put-null, put-bool, put-integral, put-real, put-long-real, put-text, put-member)
+pub ruleset standing = (rules, opened, size-some, below_put, above-put, number-within, string-few, room-null, room-bool, room-number, room-real, room-long-real, room-string, room-member, put-head, put-nothing, put-null, put-bool, put-integral, put-real, put-long-real, put-text, put-member)
 
-pub ruleset narrowing = (rules, narrow-text, narrow-other)
+pub ruleset narrowing = (rules, opened, narrow-text, narrow-other)

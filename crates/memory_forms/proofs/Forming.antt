@@ -1,4 +1,5 @@
 -- A law for each return of form.rt. Assumes nothing.
+use borrow.Enum.Refused.{opened}
 use mathlib.Core.Path.{◌≡◌, refl, sym, ◌∙◌}
 use mathlib.Core.Bool.{Bool, true, false}
 use mathlib.Core.List.{List, [], ◌∷◌}
@@ -269,4 +270,4 @@ module _ {x : Form} where
   unfolding size_as
   size-nothing e = rw e
 
-pub ruleset forming = (rules, integer-base, other-number, no_number, a-text, no_text, long-number, short-number, long-real, short-real, of_other, of-bool, of-reference, of_enumeration, of_string, of-int, of-uint, of-real, of-bytes, of-time, of-date, of-time-of-day, of-date-and-time, stored-none, stored-own, stored-base, head-form, null-form, stored-form, one_byte, two_bytes, size-head, size-null, size-bool, size_number, size-real, size-long-real, size-text, size-member, size-nothing)
+pub ruleset forming = (rules, opened, integer-base, other-number, no_number, a-text, no_text, long-number, short-number, long-real, short-real, of_other, of-bool, of-reference, of_enumeration, of_string, of-int, of-uint, of-real, of-bytes, of-time, of-date, of-time-of-day, of-date-and-time, stored-none, stored-own, stored-base, head-form, null-form, stored-form, one_byte, two_bytes, size-head, size-null, size-bool, size_number, size-real, size-long-real, size-text, size-member, size-nothing)

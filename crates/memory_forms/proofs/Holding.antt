@@ -1,4 +1,5 @@
 -- A law for each return of members.rt and held.rt. Assumes nothing.
+use borrow.Enum.Refused.{opened}
 use mathlib.Core.Path.{◌≡◌, refl, ap, sym, ◌∙◌}
 use mathlib.Core.Bool.{Bool, true, false, not, ◌&&◌}
 use mathlib.Core.List.{List, [], ◌∷◌}
@@ -345,6 +346,6 @@ module _ (f : List ℕ) (s : Shape) (n : Node) {x : Form} (is : x ≡ form_at f 
         go (form.Enumeration first many) k = absurd (miss constants 7 tt k)
         go form.Nothing k = absurd (miss constants 8 tt k)
 
-pub ruleset naming = (rules, none_passed, none_named, named_here, one-passed)
+pub ruleset naming = (rules, opened, none_passed, none_named, named_here, one-passed)
 
-pub ruleset holding = (rules, not-true, not-false, goes_on, stops, ends, string-word, other_word, constant-made, no_length, too_long, whole-string, as-string, nothing-counted, same-value, no_value_lem, placed-bits, base-placed, fits-starts, fits-ends, changed, fits_whole, fits-base, not_plain, plain_fits, no-real, a-real, no-array, an-array, no-head, structure-head, array_head, block-head, no_member, a-member, held-null, held-nothing, held-as-head, held-as-real, held-as-member, held-as-constant)
+pub ruleset holding = (rules, opened, not-true, not-false, goes_on, stops, ends, string-word, other_word, constant-made, no_length, too_long, whole-string, as-string, nothing-counted, same-value, no_value_lem, placed-bits, base-placed, fits-starts, fits-ends, changed, fits_whole, fits-base, not_plain, plain_fits, no-real, a-real, no-array, an-array, no-head, structure-head, array_head, block-head, no_member, a-member, held-null, held-nothing, held-as-head, held-as-real, held-as-member, held-as-constant)

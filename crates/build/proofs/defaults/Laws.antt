@@ -1,4 +1,5 @@
 -- A law for each return of defaults.rt, and what its calls require. Assumes nothing.
+use borrow.Enum.Refused.{opened}
 use mathlib.Core.Path.{◌≡◌, refl, ap, sym, subst, ◌∙◌, fun_ext}
 use mathlib.Core.Bool.{Bool, true, false, not}
 use mathlib.Core.List.{List, [], ◌∷◌}
@@ -368,4 +369,4 @@ module _ (f : List ℕ) (place : Place) (name : ℕ) (w : Found) (k : place_in w
                 }
 
 pub ruleset laws =
-    (rules, place-linked, linked-type, default-implicit, default-typed, implicit-room, typed-room, implicit-falls, implicit-structure, implicit-leaves, implicit-block, implicit-array, block_none, structure-fits, block-run-fits, element-shape, element-room, tree-room, inner-in, inner_room, inner-falls, element-fails, element-all, default-whole, default-after, field-none, field_in, field_room, field-falls, field-fails, field-all, so-far-none, so_far_skip, so-far-all, so-far-fails, so_far_more)
+    (rules, opened, place-linked, linked-type, default-implicit, default-typed, implicit-room, typed-room, implicit-falls, implicit-structure, implicit-leaves, implicit-block, implicit-array, block_none, structure-fits, block-run-fits, element-shape, element-room, tree-room, inner-in, inner_room, inner-falls, element-fails, element-all, default-whole, default-after, field-none, field_in, field_room, field-falls, field-fails, field-all, so-far-none, so_far_skip, so-far-all, so-far-fails, so_far_more)

@@ -65,7 +65,7 @@ module _ {s : List ℕ} {at end : ℕ} (x : WholeAt s at end) where
 -- ---- `flatten_values`
 -- what `let .. else` leaves of a value that is no array
 abbrev NoArray : Value → Type 0
-NoArray v = (tag_of the_type v ≡ 0) ⊎ ((tag_of the_type v ≡ 2) ⊎ (tag_of the_type v ≡ 3))
+NoArray v = (count : ℕ) → v ≡ value.Array count → ⊥
 
 flat-one : (t : Tree) → NoArray (value_is t) → flat t ≡ one t
 unfolding flat value_is head
@@ -75,8 +75,7 @@ flat-one (node h ts) n = go (eqb h.kind 13) refl
     go true e =
         let k : h.kind ≡ 13 = eqb-true h.kind 13 e in
         let v : value_is (node h ts) ≡ value.Array (many ts) = rw k in
-        let m : NoArray (value.Array (many ts)) = rw v at n in
-        absurd (⊎_elim (λ e. omega arith) (λ e. ⊎_elim (λ f. omega arith) (λ f. omega arith) e) m)
+        absurd (n (many ts) v)
     go false e = refl
 
 flat-parts : (t : Tree) → (head t).kind ≡ 13 → flat t ≡ parts t

@@ -1,4 +1,5 @@
 -- A law for each return of alias.rt, and what its calls require. Assumes nothing.
+use borrow.Enum.Refused.{opened}
 use mathlib.Core.Path.{◌≡◌, refl, ap, sym, subst, ◌∙◌}
 use mathlib.Core.List.{List, [], ◌∷◌}
 use Prim.Native.Nat.{ℕ, zero, suc, ◌+◌, ◌-◌, ◌*◌, ◌≤◌, ◌<◌, max}
@@ -276,4 +277,4 @@ module _ (f : List ℕ) (place : Place) (start : ℕ) where
     simple-in s = s.alias n
 
 pub ruleset laws =
-    (rules, linked-type, start-inside, simple-value, string-value, implicit-some, implicit-tree, implicit-room, tree-room, array-room, structure-room, block_room, array-in, structure-in, block_in, alias-inside, alias-spec, simple-linked, structure-linked, block-linked, alias-string, alias-subrange, alias-simple, alias-block, alias-structure, alias-array, alias-none, alias-implicit, over_none, over-large, over-wanted, over-own, subrange-none, subrange-over, base-implicit, base-typed, simple-none, simple-alias, simple-room, simple-in)
+    (rules, opened, linked-type, start-inside, simple-value, string-value, implicit-some, implicit-tree, implicit-room, tree-room, array-room, structure-room, block_room, array-in, structure-in, block_in, alias-inside, alias-spec, simple-linked, structure-linked, block-linked, alias-string, alias-subrange, alias-simple, alias-block, alias-structure, alias-array, alias-none, alias-implicit, over_none, over-large, over-wanted, over-own, subrange-none, subrange-over, base-implicit, base-typed, simple-none, simple-alias, simple-room, simple-in)

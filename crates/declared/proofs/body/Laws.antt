@@ -1,4 +1,5 @@
 -- A law for each return of body.rt, and what its calls require. Assumes nothing.
+use borrow.Enum.Refused.{opened}
 use mathlib.Core.Path.{◌≡◌, refl, ap, sym, subst, ◌∙◌, fun_ext}
 use mathlib.Core.Bool.{Bool, true, false}
 use mathlib.Core.List.{List, [], ◌∷◌}
@@ -300,4 +301,4 @@ module _ (f : List ℕ) (t : ℕ) {place : Place} (p : place ≡ place_of f t) w
     own_body h = same (body_by f t place d) (body f t) (rw (p, q)) h
 
 pub ruleset laws =
-    (rules, block-parts, nothing-room, simple-room, subrange-room, string-room, array-room, entries-room, structure-room, block_room, reference-room, implicit-room, base-linked, subrange-spec, subrange-value, string-value, array-spec, array-in, structure-in, block_in, start-in, body-nothing, body-simple, body-subrange, body-string, body-array, body-structure, body-block, body-reference, body-unknown, body-implicit, type-fits, own-place, own_room, own_body)
+    (rules, opened, block-parts, nothing-room, simple-room, subrange-room, string-room, array-room, entries-room, structure-room, block_room, reference-room, implicit-room, base-linked, subrange-spec, subrange-value, string-value, array-spec, array-in, structure-in, block_in, start-in, body-nothing, body-simple, body-subrange, body-string, body-array, body-structure, body-block, body-reference, body-unknown, body-implicit, type-fits, own-place, own_room, own_body)

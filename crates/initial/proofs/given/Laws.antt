@@ -1,4 +1,5 @@
 -- What `entries` answers, in the words of `build`. Assumes nothing.
+use borrow.Enum.Refused.{opened}
 use mathlib.Core.Path.{◌≡◌, refl, ap, sym, ◌∙◌}
 use mathlib.Core.List.{List, [], ◌∷◌}
 use Prim.Native.Nat.{ℕ, ◌+◌, ◌*◌, ◌≤◌}
@@ -116,4 +117,4 @@ module _ {f source known store : List ℕ} (y : Ready f source known store) (pla
             kept = (w.says y.memo y.memory (parts z.tree) (headed-so z.tree z.small z.stands)).kept ∙ node_kept u;
           }
 
-pub ruleset laws = (rules, array-inside, members-inside, array-there, members-there, array-given, members-other, members-given)
+pub ruleset laws = (rules, opened, array-inside, members-inside, array-there, members-there, array-given, members-other, members-given)

@@ -1,4 +1,5 @@
 -- A law for each return of start.rt, and what its calls require. Assumes nothing.
+use borrow.Enum.Refused.{opened}
 use mathlib.Core.Path.{◌≡◌, refl, ap, sym, subst, ◌∙◌}
 use mathlib.Core.List.{List, [], ◌∷◌}
 use Prim.Native.Nat.{ℕ, zero, suc, ◌+◌, ◌-◌, ◌*◌, ◌≤◌, ◌<◌, max}
@@ -184,4 +185,4 @@ module _ (f : List ℕ) (i : ℕ) (place : Place) {v : Initializer} (q : v ≡ i
   init-none h = no_value_lem (initializer f i place) (by-view refl ∙ no-view v h)
 
 pub ruleset laws =
-    (rules, start-room, array-room, structure-room, block_room, subrange-value, simple-value, string-value, array-in, structure-in, block_in, init-nothing, init-subrange, init-simple, init-string, init-values, init-type, init-reference, init-late, init-block, init-structure, init-array, init-none)
+    (rules, opened, start-room, array-room, structure-room, block_room, subrange-value, simple-value, string-value, array-in, structure-in, block_in, init-nothing, init-subrange, init-simple, init-string, init-values, init-type, init-reference, init-late, init-block, init-structure, init-array, init-none)
