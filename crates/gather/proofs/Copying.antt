@@ -130,9 +130,6 @@ module _ {begin end : ℕ} (count : ℕ) {old : List ℕ} {at : ℕ} {x : Extent
   fields-not q = record { kept = w.kept; says = λ t c k n. let z = fields-words t c in let n : ◌≡◌ {A = ℕ} 0 1 = cc z.0 in absurd (omega arith) }
 
 -- ---- `copy_structure`
-abbrev others : List ℕ
-others = 0 ∷ 1 ∷ 3 ∷ []
-
 value-structure : (t : Tree) → (head t).kind ≡ 14 → value_is t ≡ value.Structure (many (parts t))
 unfolding value_is head parts
 value-structure (node h ts) e = rw e
@@ -143,17 +140,16 @@ module _ (begin end : ℕ) {old : List ℕ} (at : ℕ) {v : Value} (q : v ≡ va
       record {
         kept = w.kept;
         says = λ t c.
-            let z = kind-structure t count c.well-formed (sym (value_there old begin t end c.well-formed c.stands) ∙ sym q ∙ i) in
+            let z = kind-structure t count c.good (sym (value_there old begin t end c.good c.stands) ∙ sym q ∙ i) in
             w.says t c z.0 z.1;
       }
 
-  pub structure-other : OneOf others (tag_of the_type v) → CopiesStructure begin end old at built.None old
+  pub structure-other : ((count : ℕ) → v ≡ value.Structure count → ⊥) → CopiesStructure begin end old at built.None old
   structure-other o =
       record {
         kept = refl;
         says = λ t c k.
-            let e : v ≡ value.Structure (many (parts t)) = q ∙ value_there old begin t end c.well-formed c.stands ∙ value-structure t k in
-            miss others 2 tt (rw e at o);
+            o (many (parts t)) (q ∙ value_there old begin t end c.good c.stands ∙ value-structure t k);
       }
 
 -- ---- `copy_default`
@@ -265,7 +261,7 @@ module _ (begin end : ℕ) (l : Filling) (old : List ℕ) (at : ℕ) {n : ℕ} (
                 counts = omega arith;
                 sizes = omega arith;
                 stands = rw (flatten_all-one t, o) v.1;
-                small = record { whole = goods-one t c.well-formed; room = omega (arith, z.0) };
+                small = record { whole = goods-one t c.good; room = omega (arith, z.0) };
                 few = omega (arith, z.1);
               };
         }

@@ -1,4 +1,5 @@
 -- The defaults of an array's elements, as `build` forms them. Assumes nothing.
+use borrow.Enum.Refused.{opened}
 use mathlib.Core.Path.{◌≡◌, refl, ap, ◌∙◌}
 use mathlib.Core.List.{List, [], ◌∷◌}
 use Prim.Native.Nat.{ℕ, ◌+◌, ◌*◌, ◌^◌, ◌≤◌, ◌<◌}
@@ -180,7 +181,7 @@ module _ {f source known store : List ℕ} (g : Ready f source known store) (pla
         }
 
 pub ruleset laws = (
-  rules,
+  rules, opened,
   head-whole,
   head-times,
   head-fits,

@@ -212,7 +212,7 @@ place-shape i = i.shape
 pub ruleset simples = (rules, opened, simple-pushed, simple-put, place-shape)
 
 pub ruleset laws = (
-  rules,
+  rules, opened,
   simple-constant,
   simple-enumerated,
   simple-expression,

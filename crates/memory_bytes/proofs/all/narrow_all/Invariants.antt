@@ -1,0 +1,15 @@
+-- `all::narrow_all` meets its contract. Assumes nothing.
+use Prim.Native.Nat.{◌+◌, ◌*◌, ◌≤◌}
+use lib.ListN.{length}
+use Rattle.records.specs.Starts.{StartsOf}
+use Rattle.places.proofs.Steps.{Comes}
+use Rattle.memory_definition.specs.Forms.{file_characters}
+use Rattle.memory_definition.specs.Memory.{narrow_all}
+use Rattle.memory_laws.specs.InWords.{cells_from}
+use Rattle.memory_bytes.proofs.all.narrow_all.Given as goal
+
+abbrev pub invariant-loop-left : goal.invariant-loop-left
+invariant-loop-left l = StartsOf l.file l.source × (l.at + l.left * 6 ≤ length l.tree) × (l.at + l.left * 6 ≤ length l.shapes) × Comes (λ k x. narrow_all l.file (file_characters l.file) (cells_from l.tree l.shapes x k)) l.left l.at (narrow_all l.file (file_characters l.file) (cells_from l.tree l.shapes 0 l.nodes))
+
+abbrev pub decreases-loop-left : goal.decreases-loop-left
+decreases-loop-left l = l.left
