@@ -84,10 +84,10 @@ to-ready g h =
 
 -- ---- what was built
 abbrev pub NoWant : Built → Type 0
-NoWant r = (tag_of the_type r ≡ 0) ⊎ ((tag_of the_type r ≡ 1) ⊎ (tag_of the_type r ≡ 2))
+NoWant r = (d : ℕ) → r ≡ built.Wanted d → ⊥
 
 pub wanted-not : {X : Type 0} (d : ℕ) → NoWant (built.Wanted d) → X
-wanted-not d k = absurd (⊎_elim (λ e. omega arith) (λ e. ⊎_elim (λ f. omega arith) (λ f. omega arith) e) k)
+wanted-not d k = absurd (k d refl)
 
 pub gives-wants : {at d : ℕ} {r : Built} {new : List ℕ} (p : Peek Outcome) → Gives flatten p at r new → r ≡ built.Wanted d → p ≡ wants d
 gives-wants (got (ok a)) h q = let s = h.says in let z : ◌≡◌ {A = ℕ} 0 1 = cc in absurd (omega arith)

@@ -1,0 +1,38 @@
+-- `parts::element_start` meets its contract. Assumes nothing.
+use Rattle.declared.proofs.parts.Laws.{laws, element_place_lem, element-init, element-room}
+use Rattle.declared.proofs.parts.element_start.Goals as goal
+
+pub word-name-requires : goal.word-name-requires
+word-name-requires c = search laws
+
+pub field_place-requires : goal.field_place-requires
+field_place-requires c = search laws
+
+pub enum_known-inner : goal.enum_known-inner
+enum_known-inner c = search laws
+
+pub word-i-requires : goal.word-i-requires
+word-i-requires c = search laws
+
+pub initializer-requires : goal.initializer-requires
+initializer-requires c =
+    let s = c in
+    let a = c.requires.0.accepted in
+    let w = c.field_place in (
+      c.requires.0,
+      element_place_lem c.args.file.now c.args.place c.args.e c.word-name.ensures w.result w.ensures c.in-Place.is a c.requires.1,
+      element-init c.args.file.now c.args.e c.word-i.ensures a c.requires.2,
+      element-room c.args.file.now c.args.place c.args.e c.word-name.ensures w.result w.ensures c.in-Place.is c.word-i.ensures c.args.at _ c.requires.3,
+    )
+
+pub enum_told-1 : goal.enum_told-1
+enum_told-1 c = search laws
+
+pub shape_of-room : goal.shape_of-room
+shape_of-room c = search laws
+
+pub returns-in-Place : goal.returns-in-Place
+returns-in-Place c = search laws
+
+pub returns-in-None : goal.returns-in-None
+returns-in-None c = search laws
