@@ -1,0 +1,15 @@
+-- `place::lay_variable` meets its contract. Assumes nothing.
+use Rattle.memory.proofs.Placing.{placing}
+use Rattle.memory.proofs.place.lay_variable.Goals as goal
+
+pub shape_classes-requires : goal.shape_classes-requires
+shape_classes-requires c = search placing
+
+pub lay_out-requires : goal.lay_out-requires
+lay_out-requires c = search placing
+
+pub returns-in-Place : goal.returns-in-Place
+returns-in-Place c = search placing
+
+pub returns-in-None : goal.returns-in-None
+returns-in-None c = search placing

@@ -1,0 +1,18 @@
+-- `types::type_same` meets its contract. Assumes nothing.
+use Rattle.sheet.proofs.Telling.{telling}
+use Rattle.sheet.proofs.types.type_same.Goals as goal
+
+pub work_out-built-requires : goal.work_out-built-requires
+work_out-built-requires c = search telling
+
+pub overflow_add-at : goal.overflow_add-at
+overflow_add-at c = search telling
+
+pub built_same-requires : goal.built_same-requires
+built_same-requires c = search telling
+
+pub shape_of-room : goal.shape_of-room
+shape_of-room c = search telling
+
+pub returns : goal.returns
+returns c = search telling

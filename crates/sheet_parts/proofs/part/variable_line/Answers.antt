@@ -1,0 +1,6 @@
+-- `part::variable_line` meets its contract. Assumes nothing.
+use Rattle.sheet_parts.proofs.Parts.{parting}
+use Rattle.sheet_parts.proofs.part.variable_line.Goals as goal
+
+pub returns : goal.returns
+returns c = search parting

@@ -1,0 +1,9 @@
+-- `refusal::is_enough` meets its contract. Assumes nothing.
+use Rattle.writer.proofs.Refusing.{refusing}
+use Rattle.writer.proofs.refusal.is_enough.Goals as goal
+
+pub returns-then-lines-lesser : goal.returns-then-lines-lesser
+returns-then-lines-lesser c = search refusing
+
+pub returns : goal.returns
+returns c = search refusing
