@@ -11,6 +11,7 @@ use lib.Dec.{eqb, leb}
 use lib.ListN.{length}
 use contract.Lifetimes.{Lfts}
 use denote.Ref.{Bor}
+use denote.MutBor.{MutBor}
 use borrow.Author.Tests.{eqb-true, eqb-false, eq-eqb, leb-true, le-leb}
 use Rattle.definition.specs.declared.answers.CheckAnswer.{CheckAnswer}
 use Rattle.definition.specs.declared.answers.CheckAnswer.TheVariants.{Passes, Refused}
@@ -82,7 +83,7 @@ module _ (f s : List ℕ) (room : ℕ) {r : CheckAnswer} (e : check_says r ≡ p
 
 -- ---- the same of the function itself: what its callers learn of a file, a sheet and a room that they lend, and of its answer
 abbrev pub Lent : Type 0
-Lent = Bor (List ℕ) × (Bor (List ℕ) × (Bor (List ℕ) × Unit {0}))
+Lent = Bor (List ℕ) × (Bor (List ℕ) × (MutBor (List ℕ) × Unit {0}))
 
 module _ (κs : Lfts 3) (lent left : Lent) (r : CheckAnswer) (c : reads.Learnt κs lent r left) where
   pub check-sheet-sound : r ≡ Passes → Right lent.0.now lent.1.0.now
