@@ -1,18 +1,17 @@
 -- Fields that are gathered one behind the other under a head: what is left comes to what the whole comes to. Assumes nothing.
-use mathlib.Core.Path.{◌≡◌, refl, ap, sym, subst, ◌∙◌, fun_ext}
+use mathlib.Core.Path.{◌≡◌, refl, ap, sym, ◌∙◌, fun_ext}
 use mathlib.Core.Bool.{Bool, true, false, not}
-use mathlib.Core.List.{List, [], ◌∷◌, append-nil}
-use Prim.Native.Nat.{ℕ, zero, suc, ◌+◌, ◌-◌, ◌*◌, ◌≤◌, ◌<◌}
+use mathlib.Core.List.{List, ◌∷◌}
+use Prim.Native.Nat.{ℕ, suc, ◌+◌, ◌-◌, ◌*◌, ◌≤◌, ◌<◌}
 use native.Mathlib.Omega.{arith}
-use native.Mathlib.Nat.{zero-add}
 use lib.ListN.{length, take}
 use lib.Dec.{leb}
 use lib.Seq.{paste, slice_empty}
 use Rattle.definition.specs.declared.records.Place.{Place}
-use Rattle.definition.specs.Base.{pick, choose}
+use Rattle.definition.specs.Base.{choose}
 use Rattle.definition.specs.Layout.{word}
 use Rattle.definition.specs.Tree.{Tree, Trees, tnil, tcons, many, nodes, nodes_in, flatten, flatten_all, headed, structure_tree, join, one, named, most_nodes, tree_words}
-use Rattle.definition.specs.Ask.{Result, ok, none, large, Ask, done, ◌>>=◌, give, gathered, and_more}
+use Rattle.definition.specs.Ask.{Result, ok, none, large, Ask, done, ◌>>=◌, gathered, and_more}
 use Rattle.definition.specs.Resolve.{Memo}
 use Rattle.definition.specs.Peek.{Peek, got, wants, peek}
 use Rattle.definition.specs.Places.{field_place}
@@ -29,7 +28,7 @@ use Rattle.build.specs.declared.built.Built.TheVariants.{Ends}
 use Rattle.build.specs.Built.{Gives, Memory, Builds}
 use Rattle.build.specs.Parts.{is_listed, listed_names, field_ask, BuildsField}
 use Rattle.build.specs.Fields.{HeadsStructure}
-use Rattle.build.proofs.Peeks.{then_peek, peek-then, then-assoc, NoEnd, gives-fails, EndsAt, gives-ends, kept-before}
+use Rattle.build.proofs.Peeks.{then_peek, peek-then, then-assoc, NoEnd, gives-fails, gives-ends, kept-before}
 use Rattle.build.proofs.leaves.Laws.{paste-kept}
 
 -- ---- tests

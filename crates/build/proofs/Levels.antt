@@ -1,26 +1,24 @@
 -- How deep places nest: what a place holds starts in fewer levels. Assumes nothing.
-use mathlib.Core.Path.{◌≡◌, refl, ap, sym, subst, ◌∙◌}
+use mathlib.Core.Path.{◌≡◌, refl, ap}
 use mathlib.Core.List.{List}
 use Prim.Native.Nat.{ℕ, zero, suc, ◌+◌, ◌*◌, ◌≤◌, ◌<◌}
 use native.Mathlib.Omega.{arith}
-use lib.ListN.{length}
 use Rattle.definition.specs.declared.records.Shape.{Shape}
 use Rattle.definition.specs.declared.records.Shape.TheVariants as shape
 use Rattle.definition.specs.declared.records.Place.{Place}
 use Rattle.definition.specs.Base.{on_link}
 use Rattle.definition.specs.Layout.{word, count, shapes, shape_fields}
 use Rattle.definition.specs.Records.{shape_at}
-use Rattle.definition.specs.Ask.{Result, ok, none}
-use Rattle.definition.specs.Shapes.{on_shape}
-use Rattle.definition.specs.Places.{bare, place_of, typed_place, element_place, first_named, block_field_type, field_declaration, declared_type, declared_element, structure_field_place, field_place}
+use Rattle.definition.specs.Ask.{none}
+use Rattle.definition.specs.Places.{bare, place_of, typed_place, element_place, first_named, block_field_type, field_declaration, structure_field_place, field_place}
 use Rattle.definition.specs.Parts.{if_stated}
 use Rattle.definition.specs.Depth.{deepest, shape_depth_from, shape_depth, levels}
 use Rattle.laws.specs.Asks.{OnOk}
 use Rattle.laws.specs.Cases.{on-link}
-use Rattle.laws.specs.Links.{Link, link-to}
+use Rattle.laws.specs.Links.{link-to}
 use Rattle.laws.specs.Accepted.{Accepted}
 use Rattle.laws.specs.Pointed.{run_at, named-of}
-use Rattle.laws.specs.Depths.{deepest-at, deepest-most, shape-depth-is, shape-depth-least}
+use Rattle.laws.specs.Depths.{deepest-at, deepest-most, shape-depth-is}
 use Rattle.places.specs.Inside.{ShapeIn, PlaceIn, element-shape, structure-fields}
 use Rattle.places.specs.Shapes.{on-kind}
 use Rattle.places.specs.Found.{place_in}

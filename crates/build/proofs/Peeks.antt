@@ -1,21 +1,18 @@
 -- What a memo gives a computation that goes on only after a value, and what is answered for it. Assumes nothing.
 use mathlib.Core.Path.{◌≡◌, refl, ap, sym, ◌∙◌}
-use mathlib.Core.Logic.{◌⊎◌, ⊎_elim}
 use mathlib.Core.List.{List}
 use Prim.Native.Nat.{ℕ, ◌+◌, ◌≤◌}
 use native.Mathlib.Omega.{arith}
 use lib.ListN.{length, take}
 use lib.Seq.{take-take}
-use denote.Enum.Declared.{tag_of}
-use Rattle.definition.specs.Ask.{Result, ok, none, large, Ask, on_ok, ◌>>=◌, done}
+use Rattle.definition.specs.Ask.{Result, ok, none, large, Ask, on_ok, ◌>>=◌}
 use Rattle.definition.specs.Resolve.{Memo}
 use Rattle.definition.specs.Peek.{Peek, got, wants, peek}
 use Rattle.laws.specs.Peeking.{on_got, peek-bind}
 use Rattle.tree.specs.Words.{Stand}
 use Rattle.build.specs.declared.built.Built.{Built}
 use Rattle.build.specs.declared.built.Built.TheVariants.{Ends, None, TooLarge, Wanted}
-use Rattle.build.specs.Built.{answer_of, Stands, Gives, Puts, Memory, Builds}
-use Rattle.build.specs.contracts.built.Built.{the_type}
+use Rattle.build.specs.Built.{answer_of, Gives, Memory, Builds}
 
 -- ---- only a value goes on
 abbrev pub then_peek : {A B : Type 0} → Peek (Result A) → (A → Peek (Result B)) → Peek (Result B)

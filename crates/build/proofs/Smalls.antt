@@ -1,13 +1,11 @@
 -- Where a default ends in the room, a whole tree stands there. Assumes nothing.
-use mathlib.Core.Path.{◌≡◌, refl, sym, ◌∙◌}
+use mathlib.Core.Path.{◌≡◌, refl}
 use mathlib.Core.List.{List}
-use Prim.Native.Nat.{ℕ, suc, ◌+◌, ◌≤◌, ◌<◌}
+use Prim.Native.Nat.{ℕ, suc, ◌≤◌}
 use native.Mathlib.Omega.{arith}
-use lib.ListN.{length}
 use Rattle.definition.specs.declared.records.Place.{Place}
-use Rattle.definition.specs.Layout.{count, types}
-use Rattle.definition.specs.Tree.{Tree, Trees, nodes, nodes_in, flatten, most_nodes}
-use Rattle.definition.specs.Ask.{Result, ok, Outcome, Ask, done, ask}
+use Rattle.definition.specs.Tree.{Tree, Trees, nodes_in, flatten, most_nodes}
+use Rattle.definition.specs.Ask.{ok, Outcome, Ask, done, ask}
 use Rattle.definition.specs.Resolve.{Look, known, unknown, on_look, Memo, at}
 use Rattle.definition.specs.Peek.{got, wants, peek}
 use Rattle.definition.specs.Parts.{element_defaults}

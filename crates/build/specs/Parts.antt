@@ -1,11 +1,10 @@
 -- The parts of defaults that building functions form one by one, and how deep they nest.
-use Rattle.std.specs.Prelude.{◌≡◌, Bool, not, ◌&&◌, List, [], ◌∷◌, ℕ, zero, suc, ◌+◌, ◌*◌, ◌≤◌, ◌<◌, eqb, length, take}
+use Rattle.std.specs.Prelude.{◌≡◌, Bool, not, ◌&&◌, List, [], ◌∷◌, ℕ, zero, suc, ◌+◌, ◌*◌, ◌≤◌, eqb, take}
 use Rattle.definition.specs.declared.records.Place.{Place}
 use Rattle.definition.specs.Base.{pick}
-use Rattle.definition.specs.Layout.{word, shape_fields, block_fields}
-use Rattle.definition.specs.Accept.{elements_of}
-use Rattle.definition.specs.Tree.{Tree, Trees, flatten, flatten_all, array_tree, null_tree, tree_words}
-use Rattle.definition.specs.Ask.{Result, ok, Outcome, Ask, done, ◌>>=◌}
+use Rattle.definition.specs.Layout.{word, block_fields}
+use Rattle.definition.specs.Tree.{Tree, Trees, flatten, flatten_all, array_tree, tree_words}
+use Rattle.definition.specs.Ask.{Result, Ask, done, ◌>>=◌}
 use Rattle.definition.specs.Places.{field_place}
 use Rattle.definition.specs.Parts.{if_stated, flat, repeated_defaults, field}
 use Rattle.definition.specs.Starting.{default_of}

@@ -1,7 +1,6 @@
 -- Files and the lines that the Rust gives for them, with document 01's limit. Written by tools/compare_definition; docs/DEFINITION.md says how.
 use mathlib.Core.Path.{◌≡◌, refl}
-use mathlib.Core.List.{List, [], ◌∷◌, ◌++◌}
-use Prim.Native.Nat.{ℕ}
+use mathlib.Core.List.{[], ◌∷◌}
 use Rattle.definition.specs.Computing.{computing}
 use Rattle.definition.specs.Accept.{verdict}
 

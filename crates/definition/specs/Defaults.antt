@@ -7,13 +7,13 @@ use Rattle.definition.specs.declared.records.Initializer.{Initializer}
 use Rattle.definition.specs.declared.records.Initializer.TheVariants as init
 use Rattle.definition.specs.declared.records.Place.{Place}
 use Rattle.definition.specs.Base.{choose, on_link, inline}
-use Rattle.definition.specs.Layout.{word, count, shapes, elements, variables, entries}
+use Rattle.definition.specs.Layout.{word, count, shapes, elements, variables}
 use Rattle.definition.specs.Records.{alias_base, declaration_at, named_type, initializer_at, constant_at}
 use Rattle.definition.specs.Syntax.{Init, Inits, inil, icons, inits_at}
-use Rattle.definition.specs.Tree.{Tree, Trees, tnil, many, one, rest, named, structure_tree, null_tree}
+use Rattle.definition.specs.Tree.{Tree, Trees, tnil, many, one, rest, structure_tree, null_tree}
 use Rattle.definition.specs.Ask.{Result, ok, none, large, Outcome, Ask, done, bind, ◌>>=◌, give, nothing, type_default, gathered, and_more}
 use Rattle.definition.specs.Iec.{assigned}
-use Rattle.definition.specs.Scalar.{enumerated_value, built_in, expression_by}
+use Rattle.definition.specs.Scalar.{enumerated_value, expression_by}
 use Rattle.definition.specs.Shapes.{on_shape}
 use Rattle.definition.specs.Places.{place_of, field_place, names_in, block_field_names, variable_place}
 use Rattle.definition.specs.declared.records.Shape.{Shape}

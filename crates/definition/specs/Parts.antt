@@ -2,10 +2,10 @@
 use Rattle.std.specs.Prelude.{Bool, ◌||◌, List, [], ◌∷◌, ℕ, zero, suc, ◌+◌, ◌*◌, eqb, leb}
 use Rattle.definition.specs.declared.records.Place.{Place}
 use Rattle.definition.specs.Base.{pick, choose, on_link}
-use Rattle.definition.specs.Layout.{word, count, variables, entries, expressions}
+use Rattle.definition.specs.Layout.{word, entries, expressions}
 use Rattle.definition.specs.Accept.{elements_of}
-use Rattle.definition.specs.Tree.{Tree, Trees, tnil, tcons, head, parts, many, nodes_in, one, times, rest, named, array_tree, structure_tree, null_tree, reference_tree, most_nodes}
-use Rattle.definition.specs.Ask.{Result, none, large, Outcome, Ask, done, ◌>>=◌, give, nothing, type_default, formed, gathered, and_more}
+use Rattle.definition.specs.Tree.{Tree, Trees, tnil, tcons, head, parts, many, nodes_in, one, times, named, array_tree, structure_tree, null_tree, reference_tree, most_nodes}
+use Rattle.definition.specs.Ask.{Result, large, Outcome, Ask, done, ◌>>=◌, give, nothing, type_default, formed, gathered, and_more}
 use Rattle.definition.specs.Iec.{filled}
 use Rattle.definition.specs.Scalar.{enumerated_value}
 use Rattle.definition.specs.Shapes.{on_array}

@@ -20,7 +20,7 @@ use Rattle.definition.specs.Layout.{count, entries}
 use Rattle.definition.specs.Records.{entry_at}
 use Rattle.definition.specs.Syntax.{Init, init_from, init_at, inits_at}
 use Rattle.definition.specs.Tree.{Tree, Trees, many, one, rest}
-use Rattle.definition.specs.Ask.{none, done, ◌>>=◌, nothing}
+use Rattle.definition.specs.Ask.{none, done, ◌>>=◌}
 use Rattle.definition.specs.Places.{leaf_place}
 use Rattle.definition.specs.Parts.{added, copied}
 use Rattle.definition.specs.Defaults as Defaults

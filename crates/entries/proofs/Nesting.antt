@@ -13,7 +13,7 @@ use Rattle.definition.specs.declared.records.Place.{Place}
 use Rattle.definition.specs.Layout.{count, entries}
 use Rattle.definition.specs.Syntax.{Init, Inits, init_at, inits_at}
 use Rattle.definition.specs.Tree.{Tree, Trees, tnil, tcons, head, parts, many, one, rest}
-use Rattle.definition.specs.Ask.{Result, ok, none, large, Outcome, Ask, ◌>>=◌, nothing, and_more}
+use Rattle.definition.specs.Ask.{Result, ok, none, large, Outcome, Ask, ◌>>=◌, and_more}
 use Rattle.definition.specs.Parts.{on_fields, added}
 use Rattle.definition.specs.Defaults as Defaults
 use Rattle.definition.specs.Starting.{expand}
@@ -35,7 +35,7 @@ use Rattle.gather.specs.declared.answers.Listed.TheVariants as listed
 use Rattle.gather.specs.declared.answers.Filling.{Filling}
 use Rattle.gather.specs.Answers.{Filled}
 use Rattle.build.specs.Built.{Memory, Ready}
-use Rattle.gather.specs.Room.{shapes_deep, rooms, Fillable, whole}
+use Rattle.gather.specs.Room.{shapes_deep, rooms, Fillable}
 use Rattle.gather.specs.Leaves.{pushed, PushesTree}
 use Rattle.gather.specs.Copies.{Taken, TakesFirst, CopiesDefault, MovesOn}
 use Rattle.entries.specs.Entries.{run_depth, DefaultsThere, RunThere, FieldsThere, Expands, ExpandsStructure, ExpandsAll, Applies}

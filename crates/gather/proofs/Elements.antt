@@ -181,7 +181,8 @@ module _ {f source known store : List ℕ} (g : Ready f source known store) (pla
         }
 
 pub ruleset laws = (
-  rules, opened,
+  rules,
+  opened,
   head-whole,
   head-times,
   head-fits,

@@ -212,7 +212,8 @@ place-shape i = i.shape
 pub ruleset simples = (rules, opened, simple-pushed, simple-put, place-shape)
 
 pub ruleset laws = (
-  rules, opened,
+  rules,
+  opened,
   simple-constant,
   simple-enumerated,
   simple-expression,

@@ -12,7 +12,7 @@ use Rattle.definition.specs.Base.{on_link}
 use Rattle.definition.specs.Layout.{count, word, shapes, shape_fields}
 use Rattle.definition.specs.Records.{shape_at}
 use Rattle.definition.specs.Accept.{elements_of}
-use Rattle.definition.specs.Tree.{tnil, null_tree}
+use Rattle.definition.specs.Tree.{tnil}
 use Rattle.definition.specs.Ask.{Result, ok, none, large, Outcome, Ask, done, bind, ◌>>=◌, give, nothing, type_default}
 use Rattle.definition.specs.Scalar.{built_in}
 use Rattle.definition.specs.Shapes.{on_shape, on_array}

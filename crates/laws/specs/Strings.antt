@@ -1,7 +1,7 @@
 -- Strings of an accepted file: a place's width is 0 or 1, and a literal is a run of the Characters section, so that the characters cut are counted in a word. Assumes nothing.
-use Rattle.std.specs.Prelude.{◌≡◌, ◌&&◌, true, leb}
+use Rattle.std.specs.Prelude.{◌≡◌, true, leb}
 use mathlib.Core.List.{List, [], ◌∷◌}
-use Prim.Native.Nat.{ℕ, ◌+◌, ◌*◌, ◌≤◌, ◌<◌}
+use Prim.Native.Nat.{ℕ, ◌≤◌, ◌<◌}
 use Rattle.std.proofs.Common.{arith, lit<, lit≤}
 use borrow.Author.Tests.{leb-true}
 use Rattle.definition.specs.declared.records.Shape.{Shape}

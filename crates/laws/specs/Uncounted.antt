@@ -8,7 +8,6 @@ use Rattle.definition.specs.declared.records.Shape.{Shape}
 use Rattle.definition.specs.declared.records.Shape.TheVariants as shape
 use Rattle.definition.specs.declared.records.Constant.{Constant}
 use Rattle.definition.specs.Base.{pick}
-use Rattle.definition.specs.Layout.{word}
 use Rattle.definition.specs.Records.{constant_of, constant_at}
 use Rattle.definition.specs.Tree.{Tree, Trees, node, tnil, tcons, flatten, flatten_all, leaf, constant_tree, enumerated_tree, null_tree}
 use Rattle.definition.specs.Ask.{Result, ok, none, large, Outcome}

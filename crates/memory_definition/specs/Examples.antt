@@ -1,5 +1,5 @@
 -- Nodes as bytes and read from bytes, on given shapes, and whole variables: bytes and words by hand, from document 02 and IEEE 754. Each side of each bound.
-use Rattle.std.specs.Prelude.{◌≡◌, refl, Bool, List, [], ◌∷◌, ◌++◌, map, ℕ, replicate}
+use Rattle.std.specs.Prelude.{◌≡◌, refl, List, [], ◌∷◌, ◌++◌, map, ℕ, replicate}
 use Rattle.definition.specs.declared.records.Shape.{Shape}
 use Rattle.definition.specs.declared.records.Shape.TheVariants as shape
 use Rattle.definition.specs.Base.{pick}

@@ -18,7 +18,7 @@ use Rattle.memory_definition.specs.declared.form.Form.{Form}
 use Rattle.memory_definition.specs.declared.form.Form.TheVariants as form
 use Rattle.memory_definition.specs.Cells.{Cell, cell}
 use Rattle.memory_definition.specs.Numbers.{literal, literal_read, character_bytes, string_bytes, text_from, length_from, string_from}
-use Rattle.memory_definition.specs.Forms.{Characters, form_of, constant_on, fits_up_to, held_constant, held_as, held, characters_from, text_on, every_below, narrow_as, narrow, bytes_as, bytes, node_of, real_read, string_read, node_as, node_read, text_as, text_read, same_bytes, listed, readable}
+use Rattle.memory_definition.specs.Forms.{Characters, form_of, constant_on, fits_up_to, held_constant, held_as, held, characters_from, text_on, every_below, narrow_as, narrow, bytes_as, bytes, real_read, string_read, node_as, node_read, text_as, text_read, same_bytes, listed, readable}
 use Rattle.memory_definition.specs.Memory.{held_all, narrow_all, bytes_all, size, readable_all, text_all, node_words_of, nodes_all}
 use Rattle.memory_laws.specs.Bytes.{Bytes, bytes_take, bytes_drop, same_bytes_lem, text-many, text-below}
 use Rattle.memory_laws.specs.Strings.{listed-string, listed-own}

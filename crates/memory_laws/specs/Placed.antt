@@ -5,7 +5,6 @@ use Prim.Native.Nat.{ℕ, zero, suc, ◌+◌, ◌-◌, ◌<◌}
 use native.Mathlib.Omega.{arith}
 use Rattle.definition.specs.declared.records.Shape.{Shape}
 use Rattle.definition.specs.declared.records.Shape.TheVariants as shape
-use Rattle.definition.specs.Layout.{count, shapes}
 use Rattle.definition.specs.Records.{shape_at}
 use Rattle.laws.specs.Accepted.{Accepted}
 use Rattle.laws.specs.Pointed.{ShapePointed, shape-pointed}

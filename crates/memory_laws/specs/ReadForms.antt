@@ -16,7 +16,6 @@ use Rattle.definition.specs.Base.{pick, joined, unused}
 use Rattle.definition.specs.Layout.{word, count, shapes, members}
 use Rattle.definition.specs.Records.{constant_of}
 use Rattle.definition.specs.Accept.{constant_plain}
-use Rattle.definition.specs.Iec.{number}
 use Rattle.definition.specs.Scalar.{size_of, value_of}
 use Rattle.definition.specs.Places.{first_named}
 use Rattle.laws.specs.Cases.{never, both}

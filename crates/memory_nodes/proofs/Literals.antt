@@ -1,13 +1,12 @@
 -- A law for each return of literal.rt. Assumes nothing.
 use mathlib.Core.Path.{◌≡◌, refl, ap, ◌∙◌}
-use mathlib.Core.Bool.{Bool, true, false, not, ◌||◌}
+use mathlib.Core.Bool.{Bool, true, false, not}
 use Prim.Native.Nat.{ℕ, suc, ◌-◌, ◌*◌, ◌/◌, ◌%◌, ◌^◌, ◌≤◌, ◌<◌}
 use native.Mathlib.Omega.{arith}
 use native.Mathlib.Nat.{pow-succ', one-mul, mod-eq_of_lt}
-use lib.Dec.{eqb}
 use lib.Pow.{pow-lt}
 use borrow.Author.Rules.{rules}
-use borrow.Author.Tests.{eqb-true, le-leb, lt-leb, not-true, not-false}
+use borrow.Author.Tests.{le-leb, lt-leb, not-true, not-false}
 use Rattle.definition.specs.declared.records.Constant.{Constant}
 use Rattle.definition.specs.Records.{constant_of}
 use Rattle.memory_definition.specs.Numbers.{is_negative, literal, literal_read}

@@ -1,5 +1,5 @@
 -- Which bytes a node is written as, asked of the bytes: what is read from them is held, they are as many as its form has, and the form's own test. Assumes nothing.
-use Rattle.std.specs.Prelude.{◌≡◌, refl, Bool, true, ◌&&◌, ◌||◌, eqb, leb}
+use Rattle.std.specs.Prelude.{◌≡◌, refl, Bool, true, ◌&&◌, eqb, leb}
 use Rattle.std.proofs.Math.Path.{sym, ap, subst}
 use Rattle.std.proofs.Common.{◌∙◌, arith, mul-suc, le_of_suc-le-suc, lt_of_not-le, mod-eq_of_lt, lit<, length-append, take-append-drop, take_at, drop_at, take-add}
 use Rattle.std.proofs.Math.Bool.{false}
@@ -13,17 +13,17 @@ use Rattle.std.proofs.Math.Seq.{length-take-le}
 use Rattle.std.specs.Float.Ieee.{binary32, binary64, nan_bits}
 use borrow.Author.Tests.{eqb-true, eq-eqb, leb-true, le-leb, not-true}
 use Rattle.definition.specs.declared.records.Constant.{Constant}
-use Rattle.definition.specs.Base.{pick, unused}
+use Rattle.definition.specs.Base.{unused}
 use Rattle.definition.specs.Layout.{members}
 use Rattle.definition.specs.Places.{first_named}
 use Rattle.definition.specs.Records.{constant_of}
 use Rattle.definition.specs.Scalar.{size_of}
-use Rattle.laws.specs.Cases.{never, both, either, on-pick}
+use Rattle.laws.specs.Cases.{never, both, on-pick}
 use Rattle.memory_definition.specs.declared.form.Form.{Form}
 use Rattle.memory_definition.specs.declared.form.Form.TheVariants as form
 use Rattle.memory_definition.specs.Cells.{Cell, cell}
 use Rattle.memory_definition.specs.Numbers.{little_endian, number_from, complement, literal_read, narrowed, widened, character_bytes, text_bytes, string_bytes, text_from, length_from, string_from}
-use Rattle.memory_definition.specs.Forms.{form_of, constant_on, held_constant, member_link, held_as, held, characters_from, text_on, size_as, bytes_as, bytes, node_of, real_read, string_read, node_as, node_read, text_as, text_read, same_bytes, listed, readable}
+use Rattle.memory_definition.specs.Forms.{form_of, constant_on, held_constant, member_link, held_as, held, text_on, size_as, bytes_as, bytes, node_of, real_read, string_read, node_as, node_read, text_as, text_read, same_bytes, listed, readable}
 use Rattle.memory_laws.specs.Bytes.{Bytes, bytes_take, bytes_drop, le-long, le_bytes, number-le, number_lt, le-number, same_bytes_lem, bytes_same, text-long, text-many, text-back, joined-parts, complement-read}
 use Rattle.memory_laws.specs.Strings.{listed-own}
 use Rattle.memory_laws.specs.ReadForms.{bytes_pow}

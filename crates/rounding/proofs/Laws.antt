@@ -1,7 +1,7 @@
 -- What `round` gives, whatever its sign: it is no NaN, and its bits are those of the magnitude with the sign's added. Assumes nothing.
 use Rattle.std.proofs.Common.{◌≡◌, ℕ, zero, suc, ◌+◌, ◌-◌, ◌*◌, ◌/◌, ◌^◌, ◌<◌, Bool, true, false, cond, not, T, ltb, ℤ, pos, ap, add_assoc, zero-add, arith, lit≤, rules, ne_eqb}
 use lib.Bits.{bit_and}
-use lib.Ieee.{Float, inf, fin, Format, binary32, binary64, prec, emax, low, top, size, odd, units, round, add, mul, of_int, of_bits, fits, in_float, is_nan, to_bits}
+use lib.Ieee.{Float, inf, fin, Format, binary32, binary64, prec, emax, low, top, odd, units, round, add, mul, of_int, of_bits, fits, in_float, is_nan, to_bits}
 use lib.Ieee.Fits.{round_is, round-fits, fits_widens}
 use lib.Ieee.Bits.{to_bits-lt}
 use Rattle.std.proofs.num.Nearest.{upper_in, lower_in, halves_masked, two_to_32}

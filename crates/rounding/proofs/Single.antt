@@ -2,7 +2,7 @@
 use Rattle.std.proofs.Common.{◌≡◌, ℕ, suc, ◌+◌, ◌-◌, ◌*◌, ◌/◌, ◌%◌, ◌^◌, ◌<◌, ◌≤◌, false, sym, ap, ◌∙◌, subst, inl, inr, le_trans, le_of_eq, lt_of_lt_of_le, mul-le-mul_right, mod-eq_of_lt, mul_assoc, mul_comm, eq-or-lt_of_le, one-mul, le-div_iff_mul-le, zero-add, div-one, mul-div_cancel, arith, pow_pos, pow_mono, pow-add, shl_lt, shr_lt, rules}
 use Prim.Native.Nat.{compare}
 use lib.Count.{count_leading_zeros, leading_top, leading_le}
-use lib.Ieee.{binary32, binary64, low, up, size, units, round, to_bits}
+use lib.Ieee.{binary32, binary64, size, units, round, to_bits}
 use lib.Ieee.Exact.{HasValue, units_val}
 use lib.Ieee.Fits.{core, round_is, nearest-le}
 use lib.Ieee.Nearest.{closest, closest_same, nearest-ge}

@@ -7,8 +7,7 @@ use codes::tree_code;
 use conversion::convert::convert;
 
 // 1 with the node's six words at the front of out, or 0 for none; a refusal in the high word. None and refusals leave out as it was.
-#[unsafe(no_mangle)]
-pub extern "C" fn wirkesu_convert(file: &[u32], shape: u32, constant: u32, out: &mut [u32]) -> u64
+pub fn wirkesu_convert(file: &[u32], shape: u32, constant: u32, out: &mut [u32]) -> u64
     ensures says { result ≡ value_code (convert_answer file.now shape constant (length out.old)) }
     ensures wrote { out.new ≡ convert_out file.now shape constant out.old }
 {

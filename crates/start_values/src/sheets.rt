@@ -8,8 +8,7 @@ use writer::sheet::write_sheet;
 
 // The number of words of a file's start sheet, which stands at the front of out. A refusal stands in the high word and leaves out as it was; lines and room
 // end as 0.
-#[unsafe(no_mangle)]
-pub extern "C" fn wirkesu_write_sheet(
+pub fn wirkesu_write_sheet(
     file: &[u32],
     out: &mut [u32],
     lines: &mut [u32],
@@ -25,8 +24,7 @@ pub extern "C" fn wirkesu_write_sheet(
 }
 
 // 0 for a sheet that passes, or its refusal; room ends as 0.
-#[unsafe(no_mangle)]
-pub extern "C" fn wirkesu_check_sheet(file: &[u32], sheet: &[u32], room: &mut [u32]) -> u32
+pub fn wirkesu_check_sheet(file: &[u32], sheet: &[u32], room: &mut [u32]) -> u32
     ensures says { result ≡ pass_code (pass_answer file.now sheet.now (length room.old)) }
     ensures room { room.new ≡ cleared room.old }
 {

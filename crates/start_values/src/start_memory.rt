@@ -8,8 +8,7 @@ use memory::read::read_memory;
 use memory::write::write_memory;
 
 // The number of bytes of a variable's start memory, which stand at the front of bytes, or 4294967295 for none.
-#[unsafe(no_mangle)]
-pub extern "C" fn wirkesu_write_memory(
+pub fn wirkesu_write_memory(
     file: &[u32],
     number: u32,
     bytes: &mut [u8],
@@ -26,8 +25,7 @@ pub extern "C" fn wirkesu_write_memory(
 }
 
 // The number of nodes read from bytes along a variable's tree, which stand at the front of nodes, and their characters at the front of characters, or 0 for none.
-#[unsafe(no_mangle)]
-pub extern "C" fn wirkesu_read_memory(
+pub fn wirkesu_read_memory(
     file: &[u32],
     number: u32,
     bytes: &[u8],

@@ -8,8 +8,7 @@ use resolver::completed::completed;
 use resolver::trees::{type_tree, variable_tree};
 
 // The number of nodes of a type's default, which stands at the front of out, or 0 for none.
-#[unsafe(no_mangle)]
-pub extern "C" fn wirkesu_type_tree(
+pub fn wirkesu_type_tree(
     file: &[u32],
     number: u32,
     out: &mut [u32],
@@ -26,8 +25,7 @@ pub extern "C" fn wirkesu_type_tree(
 }
 
 // The number of nodes of a variable's start value, which stands at the front of out, or 0 for none.
-#[unsafe(no_mangle)]
-pub extern "C" fn wirkesu_variable_tree(
+pub fn wirkesu_variable_tree(
     file: &[u32],
     number: u32,
     out: &mut [u32],
@@ -44,8 +42,7 @@ pub extern "C" fn wirkesu_variable_tree(
 }
 
 // The kind of a variable's completed initializer times 65,536, and the number of nodes in its slot, which stand at the front of out; 0 where it is left.
-#[unsafe(no_mangle)]
-pub extern "C" fn wirkesu_completed(
+pub fn wirkesu_completed(
     file: &[u32],
     number: u32,
     out: &mut [u32],

@@ -7,7 +7,7 @@ use native.Mathlib.Omega.{arith}
 use native.Mathlib.Nat.{add-zero}
 use lib.ListN.{length, take, drop, set, length-drop, length-set}
 use lib.Seq.{paste, take-paste, drop-paste, length-paste, take_at, take_all, take-take, drop-set-add, length-take-le}
-use Rattle.definition.specs.Tree.{Tree, Trees, node, head, many, flatten, flatten_all, leaf, headed, named, times}
+use Rattle.definition.specs.Tree.{Tree, Trees, node, many, flatten, flatten_all, leaf, headed, named, times}
 use Rattle.laws.specs.Whole.{flatten_all-join}
 use Rattle.tree.specs.declared.extent.Extent.{Extent}
 use Rattle.tree.specs.declared.extent.Extent.TheVariants.{Ends}

@@ -1,12 +1,12 @@
 -- A law for each return of defaults.rt, and what its calls require. Assumes nothing.
 use borrow.Enum.Refused.{opened}
-use mathlib.Core.Path.{◌≡◌, refl, ap, sym, subst, ◌∙◌, fun_ext}
+use mathlib.Core.Path.{◌≡◌, refl, ap, sym, ◌∙◌, fun_ext}
 use mathlib.Core.Bool.{Bool, true, false, not}
 use mathlib.Core.List.{List, [], ◌∷◌}
 use Prim.Native.Nat.{ℕ, zero, suc, ◌+◌, ◌-◌, ◌*◌, ◌^◌, ◌≤◌, ◌<◌}
 use native.Mathlib.Omega.{arith}
-use lib.Dec.{leb, ltb, eqb}
-use lib.ListN.{length, take, set}
+use lib.Dec.{ltb, eqb}
+use lib.ListN.{take, set}
 use lib.Seq.{take-set-le}
 use borrow.Author.Rules.{rules}
 use borrow.Author.Tests.{le-leb, lt-leb, ltb-true, ltb-false}
@@ -16,11 +16,11 @@ use Rattle.definition.specs.contracts.records.Shape.{the_type}
 use Rattle.definition.specs.declared.records.Shape.{Shape}
 use Rattle.definition.specs.declared.records.Shape.TheVariants as shape
 use Rattle.definition.specs.declared.records.Place.{Place}
-use Rattle.definition.specs.Base.{pick, choose, on_link}
+use Rattle.definition.specs.Base.{pick, on_link}
 use Rattle.definition.specs.Layout as Layout
 use Rattle.definition.specs.Layout.{word, count, shapes, shape_fields, block_fields}
 use Rattle.definition.specs.Accept.{elements_of}
-use Rattle.definition.specs.Tree.{Tree, Trees, tnil, many, nodes, nodes_in, flatten, flatten_all, array_tree, headed, null_tree, one, named, join, rest, most_nodes, tree_words}
+use Rattle.definition.specs.Tree.{Tree, Trees, tnil, many, nodes, nodes_in, flatten, flatten_all, array_tree, one, named, join, rest, most_nodes, tree_words}
 use Rattle.definition.specs.Ask.{Result, ok, none, large, Outcome, Ask, done, bind, ◌>>=◌, give, nothing, type_default, formed, gathered}
 use Rattle.definition.specs.Iec.{filled}
 use Rattle.definition.specs.Scalar.{built_in}
@@ -34,8 +34,8 @@ use Rattle.definition.specs.Starting.{implicit_by, implicit, default_of}
 use Rattle.laws.specs.Accepted.{Accepted}
 use Rattle.laws.specs.Used.{IsType}
 use Rattle.laws.specs.Implicit.{implicit-is}
-use Rattle.laws.specs.Steps.{peek-done, peek-give, peek-nothing}
-use Rattle.laws.specs.Whole.{nodes-headed, nodes_in-one, nodes-named, flatten_all-one, flatten-length}
+use Rattle.laws.specs.Steps.{peek-done, peek-give}
+use Rattle.laws.specs.Whole.{nodes-headed, nodes_in-one, nodes-named, flatten_all-one}
 use Rattle.tree.specs.Words.{Stand}
 use Rattle.tree.proofs.Standing.{named-there}
 use Rattle.tree.proofs.Fields.{stands-long}
@@ -50,10 +50,10 @@ use Rattle.places.proofs.block.Laws.{block-fits}
 use Rattle.laws.specs.Links.{link-to}
 use Rattle.build.specs.declared.built.Built.{Built}
 use Rattle.build.specs.declared.built.Built.TheVariants.{Ends, None, TooLarge}
-use Rattle.build.specs.Built.{answer_of, Stands, Gives, Puts, Memory, Builds, Ready}
-use Rattle.build.specs.Parts.{implicit_levels, start_levels, is_listed, listed_names, field_ask, BuildsField, array_words, Spreads, WholeAt}
+use Rattle.build.specs.Built.{Gives, Puts, Memory, Builds}
+use Rattle.build.specs.Parts.{implicit_levels, start_levels, is_listed, listed_names, field_ask, BuildsField, array_words, Spreads}
 use Rattle.build.specs.Fields.{NamesField}
-use Rattle.build.proofs.Peeks.{then_peek, peek-then, NoEnd, ends-not, gives-fails, EndsAt, gives-ends, kept-before}
+use Rattle.build.proofs.Peeks.{then_peek, peek-then, NoEnd, ends-not, gives-fails, gives-ends, kept-before}
 use Rattle.build.proofs.Levels.{levels-implicit, levels-typed, levels-some, element-levels, field-levels}
 use Rattle.build.proofs.Smalls.{default-small, elements-small, default-whole, default-after}
 use Rattle.build.proofs.Gathers.{SoFar, so-far-none, so_far_skip, so-far-all, so-far-fails, so_far_more}

@@ -1,18 +1,16 @@
 -- A law for each return of fields.rt. Assumes nothing.
-use mathlib.Core.Path.{◌≡◌, refl, ap, sym, ◌∙◌}
-use mathlib.Core.Bool.{Bool, true, false, not, ◌&&◌}
+use mathlib.Core.Path.{◌≡◌, refl}
+use mathlib.Core.Bool.{true, not}
 use mathlib.Core.List.{List}
 use Prim.Native.Nat.{ℕ, ◌+◌, ◌-◌, ◌≤◌, ◌<◌}
-use native.Mathlib.Omega.{arith}
-use lib.Dec.{leb, eqb}
-use lib.ListN.{length, take, set}
+use lib.Dec.{eqb}
+use lib.ListN.{length, set}
 use borrow.Author.Rules.{rules}
 use borrow.Author.Tests.{le-leb, lt-ltb, le-ltb, ne_eqb, eq-eqb}
-use Rattle.definition.specs.Layout.{word, block_fields}
+use Rattle.definition.specs.Layout.{word}
 use Rattle.tree.specs.declared.extent.Extent.{Extent}
-use Rattle.tree.specs.Words.{Wrote, WroteNode}
+use Rattle.tree.specs.Words.{WroteNode}
 use Rattle.tree.specs.Node.{head_words}
-use Rattle.build.specs.declared.built.Built.{Built}
 use Rattle.build.specs.declared.built.Built.TheVariants.{Ends, TooLarge}
 use Rattle.definition.specs.Tree.{tree_words}
 use Rattle.build.specs.Parts.{is_listed}

@@ -17,15 +17,14 @@ use Rattle.definition.specs.Peek.{got}
 use Rattle.definition.specs.Scalar.{as_tree, built_in}
 use Rattle.tree.specs.declared.extent.Extent.{Extent}
 use Rattle.tree.specs.declared.extent.Extent.TheVariants as extent
-use Rattle.tree.specs.Words.{Stand, Wrote, WroteNode}
+use Rattle.tree.specs.Words.{WroteNode}
 use Rattle.tree.proofs.Standing.{wrote-so-is, leaf-there}
-use Rattle.lines.proofs.Copying.{wrote-not-is}
 use Rattle.scalar.specs.declared.node.Leaf.{Leaf}
 use Rattle.scalar.specs.declared.node.Leaf.TheVariants as leaves
 use Rattle.scalar.specs.Node.{result_of}
 use Rattle.build.specs.declared.built.Built.{Built}
 use Rattle.build.specs.declared.built.Built.TheVariants.{Ends, None}
-use Rattle.build.specs.Built.{Gives, Puts}
+use Rattle.build.specs.Built.{Puts}
 
 -- ---- what is pasted at a place leaves what lies before it
 pub paste-kept : (old : List ℕ) (at : ℕ) (src : List ℕ) (n : ℕ) → at ≤ length old → take at (paste old at src n) ≡ take at old

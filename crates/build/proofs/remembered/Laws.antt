@@ -1,6 +1,6 @@
 -- A law for each return of remembered.rt. Assumes nothing.
 use mathlib.Core.Path.{◌≡◌, refl, ap, sym, ◌∙◌}
-use mathlib.Core.Bool.{Bool, true, false, ◌&&◌}
+use mathlib.Core.Bool.{Bool, true, false}
 use mathlib.Core.List.{List}
 use Prim.Native.Nat.{ℕ, ◌+◌, ◌*◌, ◌≤◌, ◌<◌}
 use native.Mathlib.Omega.{arith}
@@ -8,12 +8,10 @@ use lib.ListN.{length, take, drop}
 use lib.Seq.{paste}
 use borrow.Author.Rules.{rules}
 use Rattle.definition.specs.Base.{pick}
-use Rattle.definition.specs.Layout.{count, types}
 use Rattle.definition.specs.Tree as trees
 use Rattle.definition.specs.Ask.{ok, none, large, type_default}
 use Rattle.definition.specs.Resolve.{Memo}
-use Rattle.definition.specs.Resolve as resolve
-use Rattle.definition.specs.Peek.{got, wants, peek}
+use Rattle.definition.specs.Peek.{peek}
 use Rattle.laws.specs.Used.{IsType}
 use Rattle.laws.specs.Steps.{peek-known, peek-asked}
 use Rattle.laws.specs.Values.{Small}
@@ -26,7 +24,6 @@ use Rattle.lines.specs.Look.{remembered_of}
 use Rattle.lines.specs.Copy.{copy_fits, copied_words, Copies}
 use Rattle.lines.proofs.Meanings.{copy-unknown, copy-none, copy-large, copy-ends, copy-full, copy-stands}
 use Rattle.lines.proofs.Memories.{remembers-small}
-use Rattle.build.specs.declared.built.Built.{Built}
 use Rattle.build.specs.declared.built.Built.TheVariants.{Ends, None, TooLarge, Wanted}
 use Rattle.definition.specs.Tree.{tree_words}
 use Rattle.build.specs.Built.{index_in, Gives, Memory, Builds}

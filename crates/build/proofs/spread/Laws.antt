@@ -1,7 +1,6 @@
 -- A law for each return of spread.rt, and what its calls require. Assumes nothing.
-use mathlib.Core.Path.{◌≡◌, refl, ap, sym, subst, ◌∙◌}
-use mathlib.Core.Bool.{Bool, true, false, ◌&&◌, ◌||◌}
-use mathlib.Core.Logic.{◌⊎◌, ⊎_elim}
+use mathlib.Core.Path.{◌≡◌, refl, ap, sym, ◌∙◌}
+use mathlib.Core.Bool.{Bool, true, false, ◌&&◌}
 use mathlib.Core.List.{List}
 use Prim.Native.Nat.{ℕ, zero, suc, ◌+◌, ◌-◌, ◌*◌, ◌/◌, ◌^◌, ◌≤◌, ◌<◌, min}
 use native.Mathlib.Omega.{arith}
@@ -9,26 +8,24 @@ use native.Mathlib.Decide.{dec_le, ℕ_discrete}
 use native.Mathlib.Nat.{mul_comm, mul_assoc, mul-suc, mul-zero, mul-le-mul_right}
 use mir.Val.{Fits}
 use mir.Syntax.{w32, w64}
-use lib.Dec.{leb, ltb, eqb}
+use lib.Dec.{leb, eqb}
 use lib.ListN.{length, take, drop}
 use lib.Seq.{paste}
 use borrow.Author.Rules.{rules}
 use borrow.Author.Tests.{le-leb, lt-leb, leb-true, eqb-true, eq-eqb}
-use denote.Enum.Declared.{tag_of}
-use Rattle.definition.specs.Base.{pick, choose}
+use Rattle.definition.specs.Base.{pick}
 use Rattle.definition.specs.Tree.{Tree, Trees, node, tnil, tcons, head, parts, many, nodes, nodes_in, flatten, flatten_all, headed, array_tree, one, times, join, most_nodes, tree_words}
-use Rattle.definition.specs.Ask.{Result, ok, large, Ask, done, give}
+use Rattle.definition.specs.Ask.{ok, large, give}
 use Rattle.definition.specs.Parts.{flat, repeated_defaults}
 use Rattle.definition.specs.Resolve.{Memo}
 use Rattle.definition.specs.Peek.{got, peek}
-use Rattle.laws.specs.Whole.{Good, nodes-some, nodes-parts, nodes_in-one, nodes_in-times, many-one, many-times, flatten-length, flatten_all-one}
-use Rattle.tree.specs.contracts.part.Value.{the_type}
+use Rattle.laws.specs.Whole.{Good, nodes-some, nodes-parts, nodes_in-one, many-one, many-times, flatten_all-one}
 use Rattle.tree.specs.declared.extent.Extent.{Extent}
 use Rattle.tree_changes.specs.declared.grow.Grown.{Grown}
 use Rattle.tree_changes.specs.declared.grow.Grown.TheVariants as grown
 use Rattle.tree.specs.declared.part.Value.{Value}
 use Rattle.tree.specs.declared.part.Value.TheVariants as value
-use Rattle.tree.specs.Words.{Stand, Wrote, WroteNode, WroteShift, movable, rept}
+use Rattle.tree.specs.Words.{Stand, WroteNode, WroteShift, movable}
 use Rattle.tree.specs.Node.{head_words}
 use Rattle.tree.specs.Part.{value_at, value_is}
 use Rattle.tree_changes.specs.Grow.{Grew, Repeated}

@@ -1,6 +1,5 @@
 -- `accept::accept` meets its contract. Assumes nothing.
 use borrow.Author.Rules.{rules}
-use borrow.Author.Tests.{not-false}
 use Rattle.acceptance.proofs.Accepting.{accepting, few-shapes}
 use Rattle.acceptance.proofs.accept.accept.Goals as goal
 

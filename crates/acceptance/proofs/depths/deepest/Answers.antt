@@ -1,5 +1,4 @@
 -- `depths::deepest` meets its contract. Assumes nothing.
-use Prim.Native.Nat.{◌-◌}
 use Rattle.acceptance.proofs.Nests.{nests}
 use Rattle.acceptance.proofs.depths.deepest.Goals as goal
 

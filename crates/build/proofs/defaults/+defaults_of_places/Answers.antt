@@ -4,7 +4,6 @@ use Rattle.build.proofs.Levels.{levels-some}
 use Rattle.build.proofs.Smalls.{default-whole, default-after}
 use Rattle.build.proofs.Gathers.{so-far-none, so_far_skip, so-far-fails, so_far_more}
 use Rattle.build.proofs.defaults.Laws.{laws, inner-in, element-all, field_in, field-all}
-use borrow.Fn.PlainCycle.{is}
 use Rattle.build.proofs.defaults.+defaults_of_places.Goals as goal
 
 pub default_of-implicit-requires : goal.default_of-implicit-requires

@@ -4,7 +4,7 @@ use Prim.Native.Nat.{ℕ}
 use native.Mathlib.Omega.{arith}
 use borrow.Author.Tests.{eq-eqb, ne_eqb}
 use Rattle.definition.specs.Complete.{kind_for_shape}
-use Rattle.records.proofs.Listed.{more, in-run, past}
+use Rattle.records.proofs.Listed.{in-run, past}
 use Rattle.complete.proofs.slots.kind_for_shape.Goals as goal
 
 -- a reference with and without a referenced type

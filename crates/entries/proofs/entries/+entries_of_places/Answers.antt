@@ -2,7 +2,6 @@
 use Rattle.entries.proofs.Entering.{lower, entering}
 use Rattle.entries.proofs.Nesting.{nesting}
 use Rattle.entries.proofs.Building.{asked, building}
-use Prim.Native.Nat.{◌-◌}
 use Rattle.entries.proofs.entries.+entries_of_places.Goals as goal
 
 pub apply_members-loop-i-init : goal.apply_members-loop-i-init

@@ -1,5 +1,4 @@
 -- `clear::clear` meets its contract. The loop: the words passed are 0, and all else is as it was. Assumes nothing.
-use Prim.Native.Nat.{◌-◌}
 use Rattle.lines.proofs.Clearing.{clears}
 use Rattle.lines.proofs.clear.clear.Goals as goal
 

@@ -1,5 +1,4 @@
 -- `narrow::every_below` meets its contract. Assumes nothing.
-use Prim.Native.Nat.{◌-◌}
 use Rattle.memory_bytes.proofs.Spelling.{spelling}
 use Rattle.memory_bytes.proofs.narrow.every_below.Goals as goal
 

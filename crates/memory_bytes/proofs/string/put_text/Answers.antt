@@ -1,5 +1,4 @@
 -- `string::put_text` meets its contract. Assumes nothing.
-use Prim.Native.Nat.{◌-◌}
 use Rattle.memory_bytes.proofs.Spelling.{spelling}
 use Rattle.memory_bytes.proofs.string.put_text.Goals as goal
 

@@ -1,5 +1,4 @@
 -- `entries::elements` meets its contract. Assumes nothing.
-use Prim.Native.Nat.{◌-◌}
 use Rattle.memory_forms.proofs.Counting.{counting}
 use Rattle.memory_forms.proofs.entries.elements.Goals as goal
 

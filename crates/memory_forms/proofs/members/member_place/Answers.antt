@@ -1,5 +1,4 @@
 -- `members::member_place` meets its contract. Assumes nothing.
-use Prim.Native.Nat.{◌-◌}
 use Rattle.memory_forms.proofs.Holding.{naming}
 use Rattle.memory_forms.proofs.members.member_place.Goals as goal
 

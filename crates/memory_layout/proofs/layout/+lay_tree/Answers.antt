@@ -1,6 +1,4 @@
 -- `layout::lay_tree` meets its contract: a part begins behind its node. Assumes nothing.
-use Prim.Native.Nat.{◌-◌}
-use borrow.Fn.PlainCycle.{is}
 use Rattle.memory_layout.proofs.Laying.{part-inside, part_falls, part-whole, so_far_more, laws}
 use Rattle.memory_layout.proofs.layout.+lay_tree.Goals as goal
 
@@ -20,7 +18,7 @@ pub place_at-part-requires : goal.place_at-part-requires
 place_at-part-requires t c = let i = c.loop-k.invariant in (i.0, i.1, i.2, part-inside i.4 i.3 c.loop-k-test.true)
 
 pub lay_tree-to-requires : goal.lay_tree-to-requires
-lay_tree-to-requires t c = 
+lay_tree-to-requires t c =
     let i = c.loop-k.invariant in
     let l = c.loop-k-test.true in
     (part_falls i.4 i.3 l c.decreases, (i.0, c.place_at-part.ensures.located, part-whole i.4 i.3 l))
@@ -32,7 +30,7 @@ pub loop-k-smaller : goal.loop-k-smaller
 loop-k-smaller t c = search laws
 
 pub loop-k-preserved : goal.loop-k-preserved
-loop-k-preserved t c = 
+loop-k-preserved t c =
     let l = c.loop-k-test.true in
     let i = c.loop-k.invariant in
     (i.0, i.1, i.2, i.3, so_far_more i.4 i.3 l c.place_at-part.ensures.is c.lay_tree-to.ensures)

@@ -1,5 +1,4 @@
 -- `all::read_nodes` meets its contract. Assumes nothing.
-use mathlib.Core.Bool.{true}
 use Rattle.memory_nodes.proofs.Along.{read_more}
 use Rattle.memory_nodes.proofs.Loops.{noding-more, nodings}
 use Rattle.memory_nodes.proofs.all.read_nodes.Goals as goal

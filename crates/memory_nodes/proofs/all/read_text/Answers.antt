@@ -1,5 +1,4 @@
 -- `all::read_text` meets its contract. Assumes nothing.
-use mathlib.Core.Bool.{true}
 use Rattle.memory_nodes.proofs.Along.{read_more}
 use Rattle.memory_nodes.proofs.Loops.{texting-more, textings}
 use Rattle.memory_nodes.proofs.all.read_text.Goals as goal

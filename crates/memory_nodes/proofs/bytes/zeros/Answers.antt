@@ -1,5 +1,4 @@
 -- `bytes::zeros` meets its contract. Assumes nothing.
-use Prim.Native.Nat.{◌-◌}
 use Rattle.memory_nodes.proofs.Numbering.{numbering}
 use Rattle.memory_nodes.proofs.bytes.zeros.Goals as goal
 

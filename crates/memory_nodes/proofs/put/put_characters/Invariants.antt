@@ -1,7 +1,7 @@
 -- `put::put_characters` meets its contract. Assumes nothing.
 use mathlib.Core.Path.{◌≡◌}
 use lib.ListN.{length}
-use Rattle.memory_nodes.proofs.Texts.{Characters, characters}
+use Rattle.memory_nodes.proofs.Texts.{Characters}
 use Rattle.memory_nodes.proofs.put.put_characters.Given as goal
 
 abbrev pub invariant-loop-left : goal.invariant-loop-left

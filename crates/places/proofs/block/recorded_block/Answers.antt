@@ -1,5 +1,4 @@
 -- `block::recorded_block` meets its contract. Assumes nothing.
-use Prim.Native.Nat.{◌-◌}
 use Rattle.places.proofs.block.Laws.{laws}
 use Rattle.places.proofs.block.recorded_block.Goals as goal
 

@@ -1,5 +1,4 @@
 -- `declared::declared_types` meets its contract. Assumes nothing.
-use Prim.Native.Nat.{◌-◌}
 use Rattle.places.proofs.declared.Laws.{laws}
 use Rattle.places.proofs.declared.declared_types.Goals as goal
 

@@ -1,5 +1,4 @@
 -- `counts::counts_small` meets its contract. Assumes nothing.
-use Rattle.std.proofs.Common.{◌-◌}
 use Rattle.records.proofs.Scanning.{scans}
 use Rattle.plain.proofs.counts.counts_small.Goals as goal
 

@@ -1,5 +1,4 @@
 -- `above::above_run` meets its contract. Assumes nothing.
-use Prim.Native.Nat.{◌-◌}
 use Rattle.ranks.proofs.Raising.{runs}
 use Rattle.ranks.proofs.above.above_run.Goals as goal
 

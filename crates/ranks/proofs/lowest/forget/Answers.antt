@@ -1,5 +1,4 @@
 -- `lowest::forget` meets its contract. Assumes nothing.
-use Prim.Native.Nat.{◌-◌}
 use Rattle.ranks.proofs.Searching.{forgetting}
 use Rattle.ranks.proofs.lowest.forget.Goals as goal
 

@@ -1,5 +1,4 @@
 -- `lowest::rank_all` meets its contract. Assumes nothing.
-use Prim.Native.Nat.{◌-◌}
 use Rattle.ranks.proofs.Searching.{everything}
 use Rattle.ranks.proofs.lowest.rank_all.Goals as goal
 

@@ -1,5 +1,4 @@
 -- `rises::ranks_rise` meets its contract. Assumes nothing.
-use Prim.Native.Nat.{◌-◌}
 use Rattle.ranks.proofs.Tests.{tests}
 use Rattle.ranks.proofs.rises.ranks_rise.Goals as goal
 

@@ -1,5 +1,4 @@
 -- `words::find_sections` meets its contract: the starts found so far are the file's. Assumes nothing.
-use Prim.Native.Nat.{◌-◌}
 use borrow.Author.Rules.{rules}
 use Rattle.records.proofs.Starting.{first-start, next_start, all-starts, start-most}
 use Rattle.records.proofs.words.find_sections.Goals as goal

@@ -1,5 +1,4 @@
 -- `runs::run_of` meets its contract. Assumes nothing.
-use Prim.Native.Nat.{◌-◌}
 use Rattle.rules.proofs.Running.{running}
 use Rattle.rules.proofs.runs.run_of.Goals as goal
 

@@ -1,5 +1,4 @@
 -- `scan::section_right` meets its contract. Assumes nothing.
-use Prim.Native.Nat.{◌-◌}
 use Rattle.records.proofs.Scanning.{scans}
 use Rattle.rules.proofs.scan.section_right.Goals as goal
 

@@ -1,5 +1,4 @@
 -- `scan::sections_right` meets its contract. Assumes nothing.
-use Prim.Native.Nat.{◌-◌}
 use Rattle.records.proofs.Scanning.{scans}
 use Rattle.rules.proofs.scan.sections_right.Goals as goal
 

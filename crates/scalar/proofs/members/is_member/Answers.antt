@@ -1,5 +1,4 @@
 -- `members::is_member` meets its contract. The loop's invariant: the name is not among those passed. Assumes nothing.
-use Prim.Native.Nat.{◌-◌}
 use Rattle.scalar.proofs.members.Laws.{laws}
 use Rattle.scalar.proofs.members.is_member.Goals as goal
 

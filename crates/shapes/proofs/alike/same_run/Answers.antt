@@ -1,5 +1,4 @@
 -- `alike::same_run` meets its contract. Assumes nothing.
-use Prim.Native.Nat.{◌-◌}
 use Rattle.shapes.proofs.Comparing.{comparing}
 use Rattle.shapes.proofs.alike.same_run.Goals as goal
 

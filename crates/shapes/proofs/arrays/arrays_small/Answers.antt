@@ -1,5 +1,4 @@
 -- `arrays::arrays_small` meets its contract. Assumes nothing.
-use Prim.Native.Nat.{◌-◌}
 use Rattle.definition.specs.Accept.{arrays_small}
 use Rattle.records.proofs.Scanning.{scans}
 use Rattle.shapes.proofs.arrays.arrays_small.Goals as goal

@@ -1,5 +1,4 @@
 -- `arrays::elements` meets its contract. Assumes nothing.
-use Prim.Native.Nat.{◌-◌}
 use Rattle.shapes.proofs.Multiplying.{times-fits, multiplying}
 use native.Mathlib.Omega.{arith}
 use Rattle.shapes.proofs.arrays.elements.Goals as goal

@@ -1,5 +1,4 @@
 -- `differ::all_differ` meets its contract. Assumes nothing.
-use Prim.Native.Nat.{◌-◌}
 use Rattle.shapes.proofs.Keying.{apart}
 use Rattle.shapes.proofs.differ.all_differ.Goals as goal
 

@@ -1,5 +1,4 @@
 -- `differ::shape_differs` meets its contract. Assumes nothing.
-use Prim.Native.Nat.{◌-◌}
 use Rattle.shapes.proofs.Keying.{apart, alike-passes, alike-fails}
 use borrow.Author.Rules.{rules}
 use Rattle.shapes.proofs.differ.shape_differs.Goals as goal

@@ -1,9 +1,7 @@
 -- `keys::fill_keys` meets its contract. Assumes nothing.
-use Prim.Native.Nat.{◌-◌}
 use native.Mathlib.Omega.{arith}
 use lib.ListN.{length-set}
 use borrow.Author.Rules.{rules}
-use Rattle.shapes.specs.Keys.{key_of}
 use Rattle.records.proofs.Filling.{one-filled, filling}
 use Rattle.shapes.proofs.keys.fill_keys.Goals as goal
 

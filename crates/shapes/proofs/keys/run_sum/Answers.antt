@@ -1,5 +1,4 @@
 -- `keys::run_sum` meets its contract. Assumes nothing.
-use Prim.Native.Nat.{◌-◌}
 use Rattle.shapes.proofs.Keying.{summing}
 use Rattle.shapes.proofs.keys.run_sum.Goals as goal
 

@@ -1,5 +1,4 @@
 -- `like::first_like` meets its contract. Assumes nothing.
-use Prim.Native.Nat.{◌-◌}
 use Rattle.shapes.specs.Alike.{first_like}
 use Rattle.shapes.proofs.Comparing.{lowests}
 use Rattle.shapes.proofs.like.first_like.Goals as goal

@@ -1,5 +1,4 @@
 -- `compare::words_same` meets its contract. Assumes nothing.
-use Prim.Native.Nat.{◌-◌}
 use Rattle.sheet_lines.proofs.Comparing.{comparing}
 use Rattle.sheet_lines.proofs.compare.words_same.Goals as goal
 

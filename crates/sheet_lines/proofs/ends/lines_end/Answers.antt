@@ -1,5 +1,4 @@
 -- `ends::lines_end` meets its contract. Assumes nothing.
-use Prim.Native.Nat.{◌-◌}
 use Rattle.sheet_lines.proofs.Ending.{sections}
 use Rattle.sheet_lines.proofs.ends.lines_end.Goals as goal
 

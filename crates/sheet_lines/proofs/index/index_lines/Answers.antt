@@ -1,5 +1,4 @@
 -- `index::index_lines` meets its contract. Assumes nothing.
-use Prim.Native.Nat.{◌-◌}
 use Rattle.sheet_lines.proofs.Indexing.{indexing}
 use Rattle.sheet_lines.proofs.index.index_lines.Goals as goal
 

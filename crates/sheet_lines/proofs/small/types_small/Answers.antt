@@ -1,5 +1,4 @@
 -- `small::types_small` meets its contract. Assumes nothing.
-use Prim.Native.Nat.{◌-◌}
 use Rattle.sheet_lines.proofs.Sizing.{sizing}
 use Rattle.sheet_lines.proofs.small.types_small.Goals as goal
 

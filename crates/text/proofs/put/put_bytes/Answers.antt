@@ -1,5 +1,4 @@
 -- `put::put_bytes` meets its contract. Assumes nothing.
-use Prim.Native.Nat.{◌-◌}
 use Rattle.text.proofs.Putting.{puts}
 use Rattle.text.proofs.put.put_bytes.Goals as goal
 

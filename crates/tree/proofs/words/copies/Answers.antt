@@ -1,5 +1,4 @@
 -- `words::copies` meets its contract. The loop: so many copies stand there, and all else is as it was. Assumes nothing.
-use Prim.Native.Nat.{◌-◌}
 use Rattle.tree.proofs.Repeats.{repeats}
 use Rattle.tree.proofs.words.copies.Goals as goal
 

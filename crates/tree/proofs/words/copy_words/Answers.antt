@@ -1,5 +1,4 @@
 -- `words::copy_words` meets its contract. The loop: the words passed stand at their place, and all else is as it was. Assumes nothing.
-use Prim.Native.Nat.{◌-◌}
 use Rattle.tree.proofs.Moves.{moves}
 use Rattle.tree.proofs.words.copy_words.Goals as goal
 

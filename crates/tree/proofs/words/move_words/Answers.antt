@@ -1,5 +1,4 @@
 -- `words::move_words` meets its contract. The loop: as for a copy, and what is still to be read is as it was. Assumes nothing.
-use Prim.Native.Nat.{◌-◌}
 use Rattle.tree.proofs.Moves.{moves}
 use Rattle.tree.proofs.words.move_words.Goals as goal
 

@@ -1,0 +1,13 @@
+// A constant of a file as the node that it gives a place of one of the file's shapes, for C.
+ghost use Rattle.std.specs.Prelude.{◌≡◌, length};
+ghost use Rattle.definition.specs.Answers.{value_code};
+ghost use Rattle.conversion.specs.Convert.{convert_answer, convert_out};
+
+// 1 with the node's six words at the front of out, or 0 for none; a refusal in the high word. None and refusals leave out as it was.
+#[unsafe(no_mangle)]
+pub extern "C" fn wirkesu_convert(file: &[u32], shape: u32, constant: u32, out: &mut [u32]) -> u64
+    ensures says { result ≡ value_code (convert_answer file.now shape constant (length out.old)) }
+    ensures wrote { out.new ≡ convert_out file.now shape constant out.old }
+{
+    start_values::convert::wirkesu_convert(file, shape, constant, out)
+}
