@@ -79,11 +79,7 @@ fn read_words(reader: &mut impl Read, words: &mut [u32]) -> io::Result<Input> {
 }
 
 // A name that is no UTF-8 names no file that `std::fs` can open.
-fn read_named(
-    rt: &(impl Files + Eprint),
-    name: &[u8],
-    words: &mut [u32],
-) -> io::Result<Input> {
+fn read_named(rt: &(impl Files + Eprint), name: &[u8], words: &mut [u32]) -> io::Result<Input> {
     let Ok(path) = str::from_utf8(name) else {
         rt.eprintln("check_program: the name of a file is no UTF-8")?;
         return Ok(Input::Missing);
