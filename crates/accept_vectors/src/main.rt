@@ -6,6 +6,7 @@ ghost use Rattle.std.specs.Prelude.{◌<◌, ◌≤◌};
 
 use acceptance::accept::accept;
 use definition::answers::Acceptance;
+use std::io;
 use std::num::wrapping_add_u64;
 use vector_io::{Got, print_line, read_word, read_words};
 
@@ -32,35 +33,35 @@ fn refusal(words: &[u32], count: usize) -> u32 {
     }
 }
 
-fn replay(words: &mut [u32]) -> Replayed {
-    let first = read_word();
+fn replay(rt: &impl Input, words: &mut [u32]) -> io::Result<Replayed> {
+    let first = read_word(rt)?;
     let Got::Word(count) = first else {
-        return Replayed::End;
+        return Ok(Replayed::End);
     };
-    if !read_words(words, count as usize) {
-        return Replayed::End;
+    if !read_words(rt, words, count as usize)? {
+        return Ok(Replayed::End);
     }
-    let last = read_word();
+    let last = read_word(rt)?;
     let Got::Word(expected) = last else {
-        return Replayed::End;
+        return Ok(Replayed::End);
     };
     let answer = refusal(words, count as usize);
     if answer == expected {
-        return Replayed::Right;
+        return Ok(Replayed::Right);
     }
-    Replayed::Wrong(answer)
+    Ok(Replayed::Wrong(answer))
 }
 
 // 1 for a right answer; a wrong one is printed with the file's number.
-fn judged(replayed: Replayed, k: usize) -> u64 {
+fn judged(rt: &impl Print, replayed: Replayed, k: usize) -> io::Result<u64> {
     match replayed {
-        Replayed::Right => 1,
+        Replayed::Right => Ok(1),
         Replayed::Wrong(answer) => {
-            print_line(k as u64);
-            print_line(answer as u64);
-            0
+            print_line(rt, k as u64)?;
+            print_line(rt, answer as u64)?;
+            Ok(0)
         }
-        Replayed::End => 0,
+        Replayed::End => Ok(0),
     }
 }
 
@@ -76,18 +77,18 @@ fn next(replayed: Replayed, k: usize) -> usize
     }
 }
 
-fn replay_all(words: &mut [u32]) {
+fn replay_all(rt: &(impl Input + Print), words: &mut [u32]) -> io::Result<()> {
     let mut right: u64 = 0;
     let mut k = 0;
     while k < MOST_FILES {
-        let replayed = replay(words);
-        right = wrapping_add_u64(right, judged(replayed, k));
+        let replayed = replay(rt, words)?;
+        right = wrapping_add_u64(right, judged(rt, replayed, k)?);
         k = next(replayed, k);
     }
-    print_line(right);
+    print_line(rt, right)
 }
 
-fn main() {
+fn main(rt: HostRuntime) -> io::Result<()> {
     let mut words = [0u32; MOST_WORDS];
-    replay_all(&mut words);
+    replay_all(&rt, &mut words)
 }

@@ -5,8 +5,12 @@
 ghost use Rattle.std.specs.Prelude.{◌<◌};
 
 use definition::answers::CheckAnswer;
-use libc::STDOUT_FILENO;
 use sheet::check::check_sheet;
+use std::env::Env;
+use std::fs::Files;
+use std::io::Read;
+use std::{fs, io};
+use vector_io::read_full;
 
 // A quarter of the words of the longest file.
 const FILE_WORDS: usize = 65536;
@@ -14,6 +18,8 @@ const FILE_WORDS: usize = 65536;
 const SHEET_WORDS: usize = 262144;
 // 56 levels of 24,576 words: with the other arrays and what calls take that is within a stack of 8 MiB.
 const ROOM_WORDS: usize = 1376256;
+// As long as a path of the system may be.
+const NAME_BYTES: usize = 4096;
 
 // How many words a file has, or why they are not read.
 #[derive(Clone, Copy)]
@@ -38,119 +44,126 @@ fn wide(b: u8) -> u32
     b as u32
 }
 
-fn next_word(fd: i32) -> Next {
+fn next_word(reader: &mut impl Read) -> io::Result<Next> {
     let mut four = [0u8; 4];
-    let count = io::read_full(fd, &mut four);
+    let count = read_full(reader, &mut four)?;
     if count == 0 {
-        return Next::End;
+        return Ok(Next::End);
     }
     if count < 4 {
-        return Next::Odd;
+        return Ok(Next::Odd);
     }
     let low = wide(four[0]) + wide(four[1]) * 256;
     let high = wide(four[2]) + wide(four[3]) * 256;
-    Next::Word(low + high * 65536)
+    Ok(Next::Word(low + high * 65536))
 }
 
 // Reads words until the input ends or there is no room.
-fn read_words(fd: i32, words: &mut [u32]) -> Input {
+fn read_words(reader: &mut impl Read, words: &mut [u32]) -> io::Result<Input> {
     let mut i: usize = 0;
     while i < words.len() {
-        let next = next_word(fd);
+        let next = next_word(reader)?;
         match next {
             Next::Word(w) => words[i] = w,
-            Next::Odd => return Input::Odd,
-            Next::End => return Input::Words(i),
+            Next::Odd => return Ok(Input::Odd),
+            Next::End => return Ok(Input::Words(i)),
         }
         i += 1;
     }
-    let next = next_word(fd);
+    let next = next_word(reader)?;
     match next {
-        Next::Word(_) => Input::Long,
-        Next::Odd => Input::Long,
-        Next::End => Input::Words(i),
+        Next::Word(_) => Ok(Input::Long),
+        Next::Odd => Ok(Input::Long),
+        Next::End => Ok(Input::Words(i)),
     }
 }
 
-fn read_named(name: &[u8], words: &mut [u32]) -> Input {
-    let fd = os::open_read(name);
-    if fd < 0 {
-        os::fail(name);
-        return Input::Missing;
+// A name that is no UTF-8 names no file that `std::fs` can open.
+fn read_named(rt: &(impl Files + Eprint), name: &[u8], words: &mut [u32]) -> io::Result<Input> {
+    let Ok(path) = str::from_utf8(name) else {
+        rt.eprintln("check_program: the name of a file is no UTF-8")?;
+        return Ok(Input::Missing);
+    };
+    match fs::open(rt, path) {
+        Ok(mut file) => read_words(&mut file, words),
+        Err(error) => {
+            eprintln!(rt; "{path}: {error}")?;
+            Ok(Input::Missing)
+        }
     }
-    let input = read_words(fd, words);
-    libc::close(fd);
-    input
 }
 
 // The file that argument k names.
-fn read_argument(k: usize, words: &mut [u32]) -> Input {
-    let mut name = io::buffer();
-    let length = os::arg(k, &mut name);
-    if os::errno() != 0 {
-        os::fail(b"usage: check_program FILE SHEET");
-        return Input::Missing;
-    }
-    read_named(&name[..length], words)
+fn read_argument(
+    rt: &(impl Files + Env + Eprint),
+    k: usize,
+    words: &mut [u32],
+) -> io::Result<Input> {
+    let mut name = [0u8; NAME_BYTES];
+    let Ok(length) = rt.arg(k, &mut name) else {
+        rt.eprintln("usage: check_program FILE SHEET")?;
+        return Ok(Input::Missing);
+    };
+    read_named(rt, &name[..length], words)
 }
 
-fn print_refused(number: u32) {
-    io::write_all(STDOUT_FILENO, b"refused ");
-    io::print_decimal(STDOUT_FILENO, number as u64);
-    io::write_all(STDOUT_FILENO, b"\n");
+fn print_refused(rt: &impl Print, number: u32) -> io::Result<()> {
+    println!(rt; "refused {number}")
 }
 
-fn print_answer(answer: CheckAnswer) {
+fn print_answer(rt: &impl Print, answer: CheckAnswer) -> io::Result<()> {
     match answer {
-        CheckAnswer::Passes => {
-            io::write_all(STDOUT_FILENO, b"passes\n");
-        }
-        CheckAnswer::Refused(n) => print_refused(n),
+        CheckAnswer::Passes => rt.println("passes"),
+        CheckAnswer::Refused(n) => print_refused(rt, n),
     }
 }
 
 // How many words were read; where they were not, why is printed and the answer is more than there is room for.
-fn words_read(input: Input, odd: u32) -> usize {
+fn words_read(rt: &impl Print, input: Input, odd: u32) -> io::Result<usize> {
     match input {
-        Input::Words(n) => return n,
-        Input::Odd => print_refused(odd),
-        Input::Long => {
-            io::write_all(STDOUT_FILENO, b"long\n");
-        }
+        Input::Words(n) => return Ok(n),
+        Input::Odd => print_refused(rt, odd)?,
+        Input::Long => rt.println("long")?,
         Input::Missing => {}
     }
-    usize::MAX
+    Ok(usize::MAX)
 }
 
 fn check_fronts(
+    rt: &impl Print,
     file: &[u32],
     file_words: usize,
     sheet: &[u32],
     sheet_words: usize,
     room: &mut [u32],
-) {
+) -> io::Result<()> {
     if file.len() < file_words {
-        return;
+        return Ok(());
     }
     if sheet.len() < sheet_words {
-        return;
+        return Ok(());
     }
     let answer = check_sheet(&file[..file_words], &sheet[..sheet_words], room);
-    print_answer(answer);
+    print_answer(rt, answer)
 }
 
-fn check_named(file: &mut [u32], sheet: &mut [u32], room: &mut [u32]) {
-    let file_words = words_read(read_argument(1, file), 1);
+fn check_named(
+    rt: &(impl Files + Env + Print + Eprint),
+    file: &mut [u32],
+    sheet: &mut [u32],
+    room: &mut [u32],
+) -> io::Result<()> {
+    let file_words = words_read(rt, read_argument(rt, 1, file)?, 1)?;
     if file.len() < file_words {
-        return;
+        return Ok(());
     }
-    let sheet_words = words_read(read_argument(2, sheet), 11);
-    check_fronts(&file[..], file_words, &sheet[..], sheet_words, room);
+    let sheet_words = words_read(rt, read_argument(rt, 2, sheet)?, 11)?;
+    check_fronts(rt, &file[..], file_words, &sheet[..], sheet_words, room)
 }
 
-fn main() {
+fn main(rt: HostRuntime) -> io::Result<()> {
     let mut file = [0u32; FILE_WORDS];
     let mut sheet = [0u32; SHEET_WORDS];
     let mut room = [0u32; ROOM_WORDS];
-    check_named(&mut file, &mut sheet, &mut room);
+    check_named(&rt, &mut file, &mut sheet, &mut room)
 }

@@ -10,6 +10,7 @@ use definition::answers::{TreeAnswer, WorkWords};
 use memory::read::read_memory;
 use memory::write::write_memory;
 use memory_definition::answer::MemoryAnswer;
+use std::io;
 use std::num::wrapping_add_u64;
 use vector_io::{Got, print_line, read_word, read_words};
 
@@ -41,65 +42,66 @@ enum Replayed {
 }
 
 // The next word of the input, or 0 behind its end.
-fn next_word() -> u32 {
-    let got = read_word();
+fn next_word(rt: &impl Input) -> io::Result<u32> {
+    let got = read_word(rt)?;
     match got {
-        Got::Word(w) => w,
-        Got::End => 0,
+        Got::Word(w) => Ok(w),
+        Got::End => Ok(0),
     }
 }
 
 // The next byte, which is a word of the input.
-fn next_byte() -> u8 {
-    (next_word() % 256) as u8
+fn next_byte(rt: &impl Input) -> io::Result<u8> {
+    Ok((next_word(rt)? % 256) as u8)
 }
 
 // So many words of the input go to the front, none where there is no room.
-fn read_bytes(bytes: &mut [u8], count: usize) {
+fn read_bytes(rt: &impl Input, bytes: &mut [u8], count: usize) -> io::Result<()> {
     if bytes.len() < count {
-        return;
+        return Ok(());
     }
     let mut i: usize = 0;
     while i < count {
-        bytes[i] = next_byte();
+        bytes[i] = next_byte(rt)?;
         i += 1;
     }
+    Ok(())
 }
 
 // The next word of the input for the front, and what was lent behind it.
-fn expected(i: usize, count: usize) -> u32 {
+fn expected(rt: &impl Input, i: usize, count: usize) -> io::Result<u32> {
     if i < count {
-        return next_word();
+        return next_word(rt);
     }
-    LENT
+    Ok(LENT)
 }
 
-fn expected_byte(i: usize, count: usize) -> u8 {
+fn expected_byte(rt: &impl Input, i: usize, count: usize) -> io::Result<u8> {
     if i < count {
-        return next_byte();
+        return next_byte(rt);
     }
-    LENT_BYTE
+    Ok(LENT_BYTE)
 }
 
 // The words of the input are the front, and the rest is what it was.
-fn holds(out: &[u32], count: usize) -> bool {
+fn holds(rt: &impl Input, out: &[u32], count: usize) -> io::Result<bool> {
     let mut same = count <= out.len();
     let mut i: usize = 0;
     while i < out.len() {
-        same = same & (out[i] == expected(i, count));
+        same = same & (out[i] == expected(rt, i, count)?);
         i += 1;
     }
-    same
+    Ok(same)
 }
 
-fn holds_bytes(out: &[u8], count: usize) -> bool {
+fn holds_bytes(rt: &impl Input, out: &[u8], count: usize) -> io::Result<bool> {
     let mut same = count <= out.len();
     let mut i: usize = 0;
     while i < out.len() {
-        same = same & (out[i] == expected_byte(i, count));
+        same = same & (out[i] == expected_byte(rt, i, count)?);
         i += 1;
     }
-    same
+    Ok(same)
 }
 
 fn is_written(answer: MemoryAnswer, low: u32, high: u32) -> bool {
@@ -121,6 +123,7 @@ fn is_read(answer: TreeAnswer, low: u32, high: u32) -> bool {
 
 // What the writer answers for a variable, and so many bytes of the input in the slice.
 fn writes(
+    rt: &impl Input,
     file: &[u32],
     number: u32,
     bytes: &mut [u8],
@@ -129,13 +132,14 @@ fn writes(
     count: usize,
     lines: &mut [u32],
     room: &mut [u32],
-) -> bool {
+) -> io::Result<bool> {
     let answer = write_memory(file, number, bytes, lines, room);
-    is_written(answer, low, high) & holds_bytes(&bytes[..], count)
+    Ok(is_written(answer, low, high) & holds_bytes(rt, &bytes[..], count)?)
 }
 
 // The answer with so many bytes, none of which is written.
 fn writes_none(
+    rt: &impl Input,
     file: &[u32],
     number: u32,
     bytes: &mut [u8],
@@ -144,15 +148,26 @@ fn writes_none(
     high: u32,
     lines: &mut [u32],
     room: &mut [u32],
-) -> bool {
+) -> io::Result<bool> {
     if bytes.len() < few {
-        return false;
+        return Ok(false);
     }
-    writes(file, number, &mut bytes[..few], low, high, 0, lines, room)
+    writes(
+        rt,
+        file,
+        number,
+        &mut bytes[..few],
+        low,
+        high,
+        0,
+        lines,
+        room,
+    )
 }
 
 // One byte too few; where no byte is written, none at all.
 fn writes_short(
+    rt: &impl Input,
     file: &[u32],
     number: u32,
     low: u32,
@@ -160,12 +175,13 @@ fn writes_short(
     count: usize,
     lines: &mut [u32],
     room: &mut [u32],
-) -> bool {
+) -> io::Result<bool> {
     let mut bytes = [LENT_BYTE; MOST_BYTES];
     if count == 0 {
-        return writes_none(file, number, &mut bytes, 0, low, high, lines, room);
+        return writes_none(rt, file, number, &mut bytes, 0, low, high, lines, room);
     }
     writes_none(
+        rt,
         file,
         number,
         &mut bytes,
@@ -177,18 +193,25 @@ fn writes_short(
     )
 }
 
-fn replay_write(file: &[u32], number: u32, lines: &mut [u32], room: &mut [u32]) -> bool {
+fn replay_write(
+    rt: &impl Input,
+    file: &[u32],
+    number: u32,
+    lines: &mut [u32],
+    room: &mut [u32],
+) -> io::Result<bool> {
     let mut bytes = [LENT_BYTE; MOST_BYTES];
-    let low = next_word();
-    let high = next_word();
-    let count = next_word() as usize;
-    let whole = writes(file, number, &mut bytes, low, high, count, lines, room);
-    let short = writes_short(file, number, low, high, count, lines, room);
-    whole & short
+    let low = next_word(rt)?;
+    let high = next_word(rt)?;
+    let count = next_word(rt)? as usize;
+    let whole = writes(rt, file, number, &mut bytes, low, high, count, lines, room)?;
+    let short = writes_short(rt, file, number, low, high, count, lines, room)?;
+    Ok(whole & short)
 }
 
 // So many words of nodes and of characters are too few, and none of them is written.
 fn reads_none(
+    rt: &impl Input,
     file: &[u32],
     number: u32,
     bytes: &[u8],
@@ -198,12 +221,12 @@ fn reads_none(
     text: usize,
     lines: &mut [u32],
     room: &mut [u32],
-) -> bool {
+) -> io::Result<bool> {
     if nodes.len() < node_words {
-        return false;
+        return Ok(false);
     }
     if characters.len() < text {
-        return false;
+        return Ok(false);
     }
     let answer = read_memory(
         file,
@@ -214,10 +237,11 @@ fn reads_none(
         lines,
         room,
     );
-    is_read(answer, 0, TOO_SHORT) & holds(&nodes[..], 0) & holds(&characters[..], 0)
+    Ok(is_read(answer, 0, TOO_SHORT) & holds(rt, &nodes[..], 0)? & holds(rt, &characters[..], 0)?)
 }
 
 fn reads_few(
+    rt: &impl Input,
     file: &[u32],
     number: u32,
     bytes: &[u8],
@@ -225,10 +249,11 @@ fn reads_few(
     text: usize,
     lines: &mut [u32],
     room: &mut [u32],
-) -> bool {
+) -> io::Result<bool> {
     let mut nodes = [LENT; MOST_WORDS];
     let mut characters = [LENT; MOST_WORDS];
     reads_none(
+        rt,
         file,
         number,
         bytes,
@@ -243,6 +268,7 @@ fn reads_few(
 
 // One word too few of either, where any is written.
 fn reads_short(
+    rt: &impl Input,
     file: &[u32],
     number: u32,
     bytes: &[u8],
@@ -250,19 +276,26 @@ fn reads_short(
     text: usize,
     lines: &mut [u32],
     room: &mut [u32],
-) -> bool {
+) -> io::Result<bool> {
     if node_words == 0 {
-        return true;
+        return Ok(true);
     }
-    let few = reads_few(file, number, bytes, node_words - 1, text, lines, room);
+    let few = reads_few(rt, file, number, bytes, node_words - 1, text, lines, room)?;
     if text == 0 {
-        return few;
+        return Ok(few);
     }
-    few & reads_few(file, number, bytes, node_words, text - 1, lines, room)
+    Ok(few & reads_few(rt, file, number, bytes, node_words, text - 1, lines, room)?)
 }
 
 // What the reader answers for bytes, and what it leaves in both slices.
-fn reads(file: &[u32], number: u32, bytes: &[u8], lines: &mut [u32], room: &mut [u32]) -> bool {
+fn reads(
+    rt: &impl Input,
+    file: &[u32],
+    number: u32,
+    bytes: &[u8],
+    lines: &mut [u32],
+    room: &mut [u32],
+) -> io::Result<bool> {
     let mut nodes = [LENT; MOST_WORDS];
     let mut characters = [LENT; MOST_WORDS];
     let answer = read_memory(
@@ -274,79 +307,105 @@ fn reads(file: &[u32], number: u32, bytes: &[u8], lines: &mut [u32], room: &mut 
         lines,
         room,
     );
-    let low = next_word();
-    let high = next_word();
-    let node_words = next_word() as usize;
-    let same_nodes = holds(&nodes, node_words);
-    let text = next_word() as usize;
-    let same_text = holds(&characters, text);
+    let low = next_word(rt)?;
+    let high = next_word(rt)?;
+    let node_words = next_word(rt)? as usize;
+    let same_nodes = holds(rt, &nodes, node_words)?;
+    let text = next_word(rt)? as usize;
+    let same_text = holds(rt, &characters, text)?;
     let whole = is_read(answer, low, high) & same_nodes & same_text;
-    whole & reads_short(file, number, bytes, node_words, text, lines, room)
+    Ok(whole & reads_short(rt, file, number, bytes, node_words, text, lines, room)?)
 }
 
 // The bytes that are read are the front of a slice.
 fn reads_front(
+    rt: &impl Input,
     file: &[u32],
     number: u32,
     bytes: &[u8],
     count: usize,
     lines: &mut [u32],
     room: &mut [u32],
-) -> bool {
+) -> io::Result<bool> {
     if bytes.len() < count {
-        return false;
+        return Ok(false);
     }
-    reads(file, number, &bytes[..count], lines, room)
+    reads(rt, file, number, &bytes[..count], lines, room)
 }
 
-fn replay_read(file: &[u32], number: u32, lines: &mut [u32], room: &mut [u32]) -> bool {
+fn replay_read(
+    rt: &impl Input,
+    file: &[u32],
+    number: u32,
+    lines: &mut [u32],
+    room: &mut [u32],
+) -> io::Result<bool> {
     let mut bytes = [0u8; MOST_BYTES];
-    let count = next_word() as usize;
-    read_bytes(&mut bytes, count);
-    reads_front(file, number, &bytes, count, lines, room)
+    let count = next_word(rt)? as usize;
+    read_bytes(rt, &mut bytes, count)?;
+    reads_front(rt, file, number, &bytes, count, lines, room)
 }
 
 // 1 for a right answer; a wrong one is printed.
-fn judged(right: bool, k: usize, number: u32, answer: u32) -> u64 {
+fn judged(rt: &impl Print, right: bool, k: usize, number: u32, answer: u32) -> io::Result<u64> {
     if right {
-        return 1;
+        return Ok(1);
     }
-    print_line(k as u64);
-    print_line(number as u64);
-    print_line(answer as u64);
-    0
+    print_line(rt, k as u64)?;
+    print_line(rt, number as u64)?;
+    print_line(rt, answer as u64)?;
+    Ok(0)
 }
 
-fn replay_reads(file: &[u32], k: usize, number: u32, lines: &mut [u32], room: &mut [u32]) -> u64 {
-    let many = next_word();
+fn replay_reads(
+    rt: &(impl Input + Print),
+    file: &[u32],
+    k: usize,
+    number: u32,
+    lines: &mut [u32],
+    room: &mut [u32],
+) -> io::Result<u64> {
+    let many = next_word(rt)?;
     let mut right: u64 = 0;
     let mut i: u32 = 0;
     while i < many {
-        let is = replay_read(file, number, lines, room);
+        let is = replay_read(rt, file, number, lines, room)?;
         i += 1;
-        right = wrapping_add_u64(right, judged(is, k, number, i));
+        right = wrapping_add_u64(right, judged(rt, is, k, number, i)?);
     }
-    right
+    Ok(right)
 }
 
-fn replay_variable(file: &[u32], k: usize, lines: &mut [u32], room: &mut [u32]) -> u64 {
-    let number = next_word();
-    let written = replay_write(file, number, lines, room);
-    let one = judged(written, k, number, 0);
-    let read = replay_reads(file, k, number, lines, room);
-    wrapping_add_u64(one, read)
+fn replay_variable(
+    rt: &(impl Input + Print),
+    file: &[u32],
+    k: usize,
+    lines: &mut [u32],
+    room: &mut [u32],
+) -> io::Result<u64> {
+    let number = next_word(rt)?;
+    let written = replay_write(rt, file, number, lines, room)?;
+    let one = judged(rt, written, k, number, 0)?;
+    let read = replay_reads(rt, file, k, number, lines, room)?;
+    Ok(wrapping_add_u64(one, read))
 }
 
-fn replay_variables(file: &[u32], k: usize, lines: &mut [u32], room: &mut [u32]) -> u64 {
-    let many = next_word();
+fn replay_variables(
+    rt: &(impl Input + Print),
+    file: &[u32],
+    k: usize,
+    lines: &mut [u32],
+    room: &mut [u32],
+) -> io::Result<u64> {
+    let many = next_word(rt)?;
     let mut right: u64 = 0;
     let mut i: u32 = 0;
     while i < many {
-        let one = replay_variable(file, k, lines, room);
+        let one = replay_variable(rt, file, k, lines, room)?;
         right = wrapping_add_u64(right, one);
         i += 1;
     }
-    right
+    Ok(right)
 }
 
 fn wanted(answer: WorkWords) -> usize {
@@ -357,41 +416,66 @@ fn wanted(answer: WorkWords) -> usize {
 }
 
 // Just as many work words as the file wants.
-fn replay_lent(file: &[u32], k: usize, lines: &mut [u32], room: &mut [u32]) -> u64 {
+fn replay_lent(
+    rt: &(impl Input + Print),
+    file: &[u32],
+    k: usize,
+    lines: &mut [u32],
+    room: &mut [u32],
+) -> io::Result<u64> {
     let line_count = wanted(line_words(file));
     let room_count = wanted(room_words(file));
     if lines.len() < line_count {
-        return 0;
+        return Ok(0);
     }
     if room.len() < room_count {
-        return 0;
+        return Ok(0);
     }
-    replay_variables(file, k, &mut lines[..line_count], &mut room[..room_count])
+    replay_variables(
+        rt,
+        file,
+        k,
+        &mut lines[..line_count],
+        &mut room[..room_count],
+    )
 }
 
 // The file is the front of `words`.
-fn replay_front(words: &[u32], count: usize, k: usize, lines: &mut [u32], room: &mut [u32]) -> u64 {
+fn replay_front(
+    rt: &(impl Input + Print),
+    words: &[u32],
+    count: usize,
+    k: usize,
+    lines: &mut [u32],
+    room: &mut [u32],
+) -> io::Result<u64> {
     if words.len() < count {
-        return 0;
+        return Ok(0);
     }
     let file = &words[..count];
-    replay_lent(file, k, lines, room)
+    replay_lent(rt, file, k, lines, room)
 }
 
-fn replay_file(words: &mut [u32], k: usize, lines: &mut [u32], room: &mut [u32]) -> Replayed {
-    let first = read_word();
+fn replay_file(
+    rt: &(impl Input + Print),
+    words: &mut [u32],
+    k: usize,
+    lines: &mut [u32],
+    room: &mut [u32],
+) -> io::Result<Replayed> {
+    let first = read_word(rt)?;
     let Got::Word(w) = first else {
-        return Replayed::End;
+        return Ok(Replayed::End);
     };
     let count = w as usize;
-    if !read_words(words, count) {
-        return Replayed::End;
+    if !read_words(rt, words, count)? {
+        return Ok(Replayed::End);
     }
-    let right = replay_front(&words[..], count, k, lines, room);
-    if next_word() == SENTINEL {
-        return Replayed::Right(right);
+    let right = replay_front(rt, &words[..], count, k, lines, room)?;
+    if next_word(rt)? == SENTINEL {
+        return Ok(Replayed::Right(right));
     }
-    Replayed::End
+    Ok(Replayed::End)
 }
 
 // The next file's number, or past the last where the input has ended.
@@ -412,20 +496,25 @@ fn counted(replayed: Replayed) -> u64 {
     }
 }
 
-fn replay_all(words: &mut [u32], lines: &mut [u32], room: &mut [u32]) {
+fn replay_all(
+    rt: &(impl Input + Print),
+    words: &mut [u32],
+    lines: &mut [u32],
+    room: &mut [u32],
+) -> io::Result<()> {
     let mut right: u64 = 0;
     let mut k = 0;
     while k < MOST_FILES {
-        let replayed = replay_file(words, k, lines, room);
+        let replayed = replay_file(rt, words, k, lines, room)?;
         right = wrapping_add_u64(right, counted(replayed));
         k = next(replayed, k);
     }
-    print_line(right);
+    print_line(rt, right)
 }
 
-fn main() {
+fn main(rt: HostRuntime) -> io::Result<()> {
     let mut words = [0u32; MOST_WORDS];
     let mut lines = [0u32; MOST_LINES];
     let mut room = [0u32; MOST_ROOM];
-    replay_all(&mut words, &mut lines, &mut room);
+    replay_all(&rt, &mut words, &mut lines, &mut room)
 }

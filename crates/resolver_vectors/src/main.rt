@@ -11,6 +11,7 @@ use definition::layout::{NODE_WORDS, TYPES, VARIABLES};
 use records::words::{count, find_sections};
 use resolver::completed::completed;
 use resolver::trees::{type_tree, variable_tree};
+use std::io;
 use std::num::wrapping_add_u64;
 use vector_io::{Got, print_line, read_word, read_words};
 
@@ -36,11 +37,11 @@ enum Replayed {
 }
 
 // The next word of the input, or 0 behind its end.
-fn next_word() -> u32 {
-    let got = read_word();
+fn next_word(rt: &impl Input) -> io::Result<u32> {
+    let got = read_word(rt)?;
     match got {
-        Got::Word(w) => w,
-        Got::End => 0,
+        Got::Word(w) => Ok(w),
+        Got::End => Ok(0),
     }
 }
 
@@ -61,14 +62,14 @@ fn word_of(out: &[u32], i: usize) -> u32 {
 }
 
 // So many words of the input, all read, are the front of the slice.
-fn same_front(out: &[u32], words: usize) -> bool {
+fn same_front(rt: &impl Input, out: &[u32], words: usize) -> io::Result<bool> {
     let mut same = true;
     let mut i: usize = 0;
     while i < words {
-        same = same & (word_of(out, i) == next_word());
+        same = same & (word_of(out, i) == next_word(rt)?);
         i += 1;
     }
-    same
+    Ok(same)
 }
 
 // Words behind an answer are what they were.
@@ -84,10 +85,10 @@ fn same_rest(out: &[u32], from: usize) -> bool {
 }
 
 // The slice holds so many nodes, which are those of the input.
-fn same_nodes(out: &[u32], nodes: u32) -> bool {
+fn same_nodes(rt: &impl Input, out: &[u32], nodes: u32) -> io::Result<bool> {
     let words = (nodes as usize) * NODE_WORDS;
-    let front = same_front(out, words);
-    front & same_rest(out, words)
+    let front = same_front(rt, out, words)?;
+    Ok(front & same_rest(out, words))
 }
 
 fn is_tree(answer: TreeAnswer, state: u32, nodes: u32) -> bool {
@@ -106,53 +107,55 @@ fn is_completed(answer: CompletedAnswer, state: u32, kind: u32, nodes: u32) -> b
     }
 }
 
-fn same_tree(answer: TreeAnswer, out: &[u32]) -> bool {
-    let state = next_word();
-    let nodes = next_word();
-    is_tree(answer, state, nodes) & same_nodes(out, nodes)
+fn same_tree(rt: &impl Input, answer: TreeAnswer, out: &[u32]) -> io::Result<bool> {
+    let state = next_word(rt)?;
+    let nodes = next_word(rt)?;
+    Ok(is_tree(answer, state, nodes) & same_nodes(rt, out, nodes)?)
 }
 
-fn same_completed(answer: CompletedAnswer, out: &[u32]) -> bool {
-    let state = next_word();
-    let kind = next_word();
-    let nodes = next_word();
-    is_completed(answer, state, kind, nodes) & same_nodes(out, nodes)
+fn same_completed(rt: &impl Input, answer: CompletedAnswer, out: &[u32]) -> io::Result<bool> {
+    let state = next_word(rt)?;
+    let kind = next_word(rt)?;
+    let nodes = next_word(rt)?;
+    Ok(is_completed(answer, state, kind, nodes) & same_nodes(rt, out, nodes)?)
 }
 
 // The answer of a section is the one of the input.
 fn is_right(
+    rt: &impl Input,
     file: &[u32],
     section: u32,
     number: u32,
     out: &mut [u32],
     lines: &mut [u32],
     room: &mut [u32],
-) -> bool {
+) -> io::Result<bool> {
     fill(out);
     if section == TYPE_TREES {
         let answer = type_tree(file, number, out, lines, room);
-        return same_tree(answer, &out[..]);
+        return same_tree(rt, answer, &out[..]);
     }
     if section == VARIABLE_TREES {
         let answer = variable_tree(file, number, out, lines, room);
-        return same_tree(answer, &out[..]);
+        return same_tree(rt, answer, &out[..]);
     }
     let answer = completed(file, number, out, lines, room);
-    same_completed(answer, &out[..])
+    same_completed(rt, answer, &out[..])
 }
 
 // 1 for a right answer; a wrong one is printed.
-fn judged(right: bool, k: usize, section: u32, number: u32) -> u64 {
+fn judged(rt: &impl Print, right: bool, k: usize, section: u32, number: u32) -> io::Result<u64> {
     if right {
-        return 1;
+        return Ok(1);
     }
-    print_line(k as u64);
-    print_line(section as u64);
-    print_line(number as u64);
-    0
+    print_line(rt, k as u64)?;
+    print_line(rt, section as u64)?;
+    print_line(rt, number as u64)?;
+    Ok(0)
 }
 
 fn replay_section(
+    rt: &(impl Input + Print),
     file: &[u32],
     k: usize,
     section: u32,
@@ -160,31 +163,32 @@ fn replay_section(
     out: &mut [u32],
     lines: &mut [u32],
     room: &mut [u32],
-) -> u64 {
+) -> io::Result<u64> {
     let mut right: u64 = 0;
     let mut number: u32 = 0;
     while number < many {
-        let is = is_right(file, section, number, out, lines, room);
-        right = wrapping_add_u64(right, judged(is, k, section, number));
+        let is = is_right(rt, file, section, number, out, lines, room)?;
+        right = wrapping_add_u64(right, judged(rt, is, k, section, number)?);
         number += 1;
     }
-    right
+    Ok(right)
 }
 
 fn replay_answers(
+    rt: &(impl Input + Print),
     file: &[u32],
     k: usize,
     out: &mut [u32],
     lines: &mut [u32],
     room: &mut [u32],
-) -> u64 {
+) -> io::Result<u64> {
     let source = find_sections(file);
     let types = count(file, &source, TYPES);
     let variables = count(file, &source, VARIABLES);
-    let first = replay_section(file, k, TYPE_TREES, types, out, lines, room);
-    let second = replay_section(file, k, VARIABLE_TREES, variables, out, lines, room);
-    let third = replay_section(file, k, 2, variables, out, lines, room);
-    wrapping_add_u64(wrapping_add_u64(first, second), third)
+    let first = replay_section(rt, file, k, TYPE_TREES, types, out, lines, room)?;
+    let second = replay_section(rt, file, k, VARIABLE_TREES, variables, out, lines, room)?;
+    let third = replay_section(rt, file, k, 2, variables, out, lines, room)?;
+    Ok(wrapping_add_u64(wrapping_add_u64(first, second), third))
 }
 
 fn wanted(answer: WorkWords) -> usize {
@@ -196,6 +200,7 @@ fn wanted(answer: WorkWords) -> usize {
 
 // Just as many work words as the file wants.
 fn replay_lent(
+    rt: &(impl Input + Print),
     file: &[u32],
     k: usize,
     out: &mut [u32],
@@ -203,14 +208,15 @@ fn replay_lent(
     room: &mut [u32],
     line_count: usize,
     room_count: usize,
-) -> u64 {
+) -> io::Result<u64> {
     if lines.len() < line_count {
-        return 0;
+        return Ok(0);
     }
     if room.len() < room_count {
-        return 0;
+        return Ok(0);
     }
     replay_answers(
+        rt,
         file,
         k,
         out,
@@ -221,41 +227,43 @@ fn replay_lent(
 
 // The file is the front of `words`.
 fn replay_front(
+    rt: &(impl Input + Print),
     words: &[u32],
     count: usize,
     k: usize,
     out: &mut [u32],
     lines: &mut [u32],
     room: &mut [u32],
-) -> u64 {
+) -> io::Result<u64> {
     if words.len() < count {
-        return 0;
+        return Ok(0);
     }
     let file = &words[..count];
     let line_count = wanted(line_words(file));
     let room_count = wanted(room_words(file));
-    replay_lent(file, k, out, lines, room, line_count, room_count)
+    replay_lent(rt, file, k, out, lines, room, line_count, room_count)
 }
 
 fn replay_file(
+    rt: &(impl Input + Print),
     words: &mut [u32],
     k: usize,
     out: &mut [u32],
     lines: &mut [u32],
     room: &mut [u32],
-) -> Replayed {
-    let first = read_word();
+) -> io::Result<Replayed> {
+    let first = read_word(rt)?;
     let Got::Word(count) = first else {
-        return Replayed::End;
+        return Ok(Replayed::End);
     };
-    if !read_words(words, count as usize) {
-        return Replayed::End;
+    if !read_words(rt, words, count as usize)? {
+        return Ok(Replayed::End);
     }
-    let second = read_word();
+    let second = read_word(rt)?;
     let Got::Word(_) = second else {
-        return Replayed::End;
+        return Ok(Replayed::End);
     };
-    Replayed::Right(replay_front(&words[..], count as usize, k, out, lines, room))
+    Ok(Replayed::Right(replay_front(rt, &words[..], count as usize, k, out, lines, room)?))
 }
 
 // The next file's number, or past the last where the input has ended.
@@ -276,21 +284,27 @@ fn counted(replayed: Replayed) -> u64 {
     }
 }
 
-fn replay_all(words: &mut [u32], out: &mut [u32], lines: &mut [u32], room: &mut [u32]) {
+fn replay_all(
+    rt: &(impl Input + Print),
+    words: &mut [u32],
+    out: &mut [u32],
+    lines: &mut [u32],
+    room: &mut [u32],
+) -> io::Result<()> {
     let mut right: u64 = 0;
     let mut k = 0;
     while k < MOST_FILES {
-        let replayed = replay_file(words, k, out, lines, room);
+        let replayed = replay_file(rt, words, k, out, lines, room)?;
         right = wrapping_add_u64(right, counted(replayed));
         k = next(replayed, k);
     }
-    print_line(right);
+    print_line(rt, right)
 }
 
-fn main() {
+fn main(rt: HostRuntime) -> io::Result<()> {
     let mut words = [0u32; MOST_WORDS];
     let mut out = [0u32; MOST_WORDS];
     let mut lines = [0u32; MOST_LINES];
     let mut room = [0u32; MOST_ROOM];
-    replay_all(&mut words, &mut out, &mut lines, &mut room);
+    replay_all(&rt, &mut words, &mut out, &mut lines, &mut room)
 }

@@ -6,6 +6,7 @@
 ghost use Rattle.std.specs.Prelude.{◌<◌, ◌≤◌};
 
 use start_values::convert::wirkesu_convert;
+use std::io;
 use std::num::wrapping_add_u64;
 use vector_io::{Got, print_line, read_word, read_words};
 
@@ -52,50 +53,55 @@ fn is_right(file: &[u32], pair: [u32; 9]) -> bool {
 }
 
 // 1 for a right answer; a pair with a wrong one is printed.
-fn judged(file: &[u32], pair: [u32; 9]) -> u64 {
+fn judged(rt: &impl Print, file: &[u32], pair: [u32; 9]) -> io::Result<u64> {
     if is_right(file, pair) {
-        return 1;
+        return Ok(1);
     }
-    print_line(pair[0] as u64);
-    print_line(pair[1] as u64);
-    0
+    print_line(rt, pair[0] as u64)?;
+    print_line(rt, pair[1] as u64)?;
+    Ok(0)
 }
 
-fn replay_pairs(file: &[u32], pairs: u32) -> u64 {
+fn replay_pairs(rt: &(impl Input + Print), file: &[u32], pairs: u32) -> io::Result<u64> {
     let mut right: u64 = 0;
     let mut left = pairs;
     while left > 0 {
         let mut pair = [0u32; 9];
-        if !read_words(&mut pair, 9) {
-            return right;
+        if !read_words(rt, &mut pair, 9)? {
+            return Ok(right);
         }
-        right = wrapping_add_u64(right, judged(file, pair));
+        right = wrapping_add_u64(right, judged(rt, file, pair)?);
         left -= 1;
     }
-    right
+    Ok(right)
 }
 
 // The file is the front of `words`.
-fn replay_front(words: &[u32], count: usize, pairs: u32) -> u64 {
+fn replay_front(
+    rt: &(impl Input + Print),
+    words: &[u32],
+    count: usize,
+    pairs: u32,
+) -> io::Result<u64> {
     if words.len() < count {
-        return 0;
+        return Ok(0);
     }
-    replay_pairs(&words[..count], pairs)
+    replay_pairs(rt, &words[..count], pairs)
 }
 
-fn replay_file(words: &mut [u32]) -> Replayed {
-    let first = read_word();
+fn replay_file(rt: &(impl Input + Print), words: &mut [u32]) -> io::Result<Replayed> {
+    let first = read_word(rt)?;
     let Got::Word(count) = first else {
-        return Replayed::End;
+        return Ok(Replayed::End);
     };
-    if !read_words(words, count as usize) {
-        return Replayed::End;
+    if !read_words(rt, words, count as usize)? {
+        return Ok(Replayed::End);
     }
-    let second = read_word();
+    let second = read_word(rt)?;
     let Got::Word(pairs) = second else {
-        return Replayed::End;
+        return Ok(Replayed::End);
     };
-    Replayed::Right(replay_front(words, count as usize, pairs))
+    Ok(Replayed::Right(replay_front(rt, words, count as usize, pairs)?))
 }
 
 // The next file's number, or past the last where the input has ended.
@@ -116,18 +122,18 @@ fn counted(replayed: Replayed) -> u64 {
     }
 }
 
-fn replay_all(words: &mut [u32]) {
+fn replay_all(rt: &(impl Input + Print), words: &mut [u32]) -> io::Result<()> {
     let mut right: u64 = 0;
     let mut k = 0;
     while k < MOST_FILES {
-        let replayed = replay_file(words);
+        let replayed = replay_file(rt, words)?;
         right = wrapping_add_u64(right, counted(replayed));
         k = next(replayed, k);
     }
-    print_line(right);
+    print_line(rt, right)
 }
 
-fn main() {
+fn main(rt: HostRuntime) -> io::Result<()> {
     let mut words = [0u32; MOST_WORDS];
-    replay_all(&mut words);
+    replay_all(&rt, &mut words)
 }

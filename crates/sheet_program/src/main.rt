@@ -1,26 +1,33 @@
 // The sheet program (document 01, after the examples): reads a file's bytes from standard input and prints its sheet, `long` or a refusal.
 #![tactic(auto)]
 
-use libc::{STDIN_FILENO, STDOUT_FILENO};
 use sheet_text::file::SHEET_WORDS;
 use sheet_text::input::{MOST_TEXT, sheet_text};
+use std::io;
+use vector_io::read_full;
 
 // One byte more than a file may have: more need not be read.
 const INPUT_BYTES: usize = 32769;
 // 69 levels of 24,576 words: with the other arrays and what calls take that is within a stack of 8 MiB.
 const ROOM_WORDS: usize = 1695744;
 
-fn print(bytes: &mut [u8], text: &mut [u8], lines: &mut [u32], room: &mut [u32]) {
-    let count = io::read_full(STDIN_FILENO, bytes);
+fn print(
+    rt: &(impl Input + Print),
+    bytes: &mut [u8],
+    text: &mut [u8],
+    lines: &mut [u32],
+    room: &mut [u32],
+) -> io::Result<()> {
+    let count = read_full(&mut rt.reader(), bytes)?;
     let end = sheet_text(&bytes[..count], text, lines, room);
-    io::write_all(STDOUT_FILENO, &text[..end]);
+    rt.write_all(&text[..end])
 }
 
-fn main() {
+fn main(rt: HostRuntime) -> io::Result<()> {
     let mut bytes = [0u8; INPUT_BYTES];
     let mut text = [0u8; MOST_TEXT];
     // The lines of types never need more words than the sheet itself.
     let mut lines = [0u32; SHEET_WORDS];
     let mut room = [0u32; ROOM_WORDS];
-    print(&mut bytes, &mut text, &mut lines, &mut room);
+    print(&rt, &mut bytes, &mut text, &mut lines, &mut room)
 }

@@ -7,6 +7,7 @@ ghost use Rattle.std.specs.Prelude.{◌<◌, ◌≤◌};
 
 use definition::answers::{CheckAnswer, SheetAnswer};
 use sheet::check::check_sheet;
+use std::io;
 use std::num::wrapping_add_u64;
 use vector_io::{Got, print_line, read_word, read_words};
 use writer::sheet::write_sheet;
@@ -29,11 +30,11 @@ enum Replayed {
 }
 
 // The next word of the input, or 0 behind its end.
-fn next_word() -> u32 {
-    let got = read_word();
+fn next_word(rt: &impl Input) -> io::Result<u32> {
+    let got = read_word(rt)?;
     match got {
-        Got::Word(w) => w,
-        Got::End => 0,
+        Got::Word(w) => Ok(w),
+        Got::End => Ok(0),
     }
 }
 
@@ -106,44 +107,56 @@ fn checks(file: &[u32], sheet: &[u32], expected: u32, room: &mut [u32]) -> bool 
 }
 
 // The next change of a word: checked, and changed back.
-fn change_checks(file: &[u32], sheet: &mut [u32], room: &mut [u32]) -> bool {
-    let at = next_word() as usize;
-    let word = next_word();
-    let expected = next_word();
+fn change_checks(
+    rt: &impl Input,
+    file: &[u32],
+    sheet: &mut [u32],
+    room: &mut [u32],
+) -> io::Result<bool> {
+    let at = next_word(rt)? as usize;
+    let word = next_word(rt)?;
+    let expected = next_word(rt)?;
     if at >= sheet.len() {
-        return false;
+        return Ok(false);
     }
     let right = sheet[at];
     sheet[at] = word;
     let is = checks(file, &sheet[..], expected, room);
     sheet[at] = right;
-    is
+    Ok(is)
 }
 
 // 1 for a right answer; a wrong one is printed.
-fn judged(right: bool, k: usize, number: u32) -> u64 {
+fn judged(rt: &impl Print, right: bool, k: usize, number: u32) -> io::Result<u64> {
     if right {
-        return 1;
+        return Ok(1);
     }
-    print_line(k as u64);
-    print_line(number as u64);
-    0
+    print_line(rt, k as u64)?;
+    print_line(rt, number as u64)?;
+    Ok(0)
 }
 
-fn replay_changes(file: &[u32], k: usize, sheet: &mut [u32], room: &mut [u32]) -> u64 {
-    let many = next_word();
+fn replay_changes(
+    rt: &(impl Input + Print),
+    file: &[u32],
+    k: usize,
+    sheet: &mut [u32],
+    room: &mut [u32],
+) -> io::Result<u64> {
+    let many = next_word(rt)?;
     let mut right: u64 = 0;
     let mut number: u32 = 0;
     while number < many {
-        let is = change_checks(file, sheet, room);
-        right = wrapping_add_u64(right, judged(is, k, number));
+        let is = change_checks(rt, file, sheet, room)?;
+        right = wrapping_add_u64(right, judged(rt, is, k, number)?);
         number += 1;
     }
-    right
+    Ok(right)
 }
 
 // A sheet of a file in a circle has no ranks that rise.
 fn replay_sheet(
+    rt: &(impl Input + Print),
     file: &[u32],
     k: usize,
     refused: u32,
@@ -151,16 +164,17 @@ fn replay_sheet(
     out: &mut [u32],
     lines: &mut [u32],
     room: &mut [u32],
-) -> u64 {
+) -> io::Result<u64> {
     let written = writes(file, refused, &sheet[..], out, lines, room);
     let expected = if refused == 0 { 0 } else { NO_RANKS };
     let checked = checks(file, &sheet[..], expected, room);
-    let two = wrapping_add_u64(judged(written, k, 0), judged(checked, k, 1));
-    wrapping_add_u64(two, replay_changes(file, k, sheet, room))
+    let two = wrapping_add_u64(judged(rt, written, k, 0)?, judged(rt, checked, k, 1)?);
+    Ok(wrapping_add_u64(two, replay_changes(rt, file, k, sheet, room)?))
 }
 
 // The file and its sheet are the fronts of slices.
 fn replay_fronts(
+    rt: &(impl Input + Print),
     words: &[u32],
     file_words: usize,
     k: usize,
@@ -170,15 +184,16 @@ fn replay_fronts(
     out: &mut [u32],
     lines: &mut [u32],
     room: &mut [u32],
-) -> u64 {
+) -> io::Result<u64> {
     if words.len() < file_words {
-        return 0;
+        return Ok(0);
     }
     if sheet.len() < sheet_words {
-        return 0;
+        return Ok(0);
     }
     let file = &words[..file_words];
     replay_sheet(
+        rt,
         file,
         k,
         refused,
@@ -190,27 +205,29 @@ fn replay_fronts(
 }
 
 fn replay_file(
+    rt: &(impl Input + Print),
     words: &mut [u32],
     sheet: &mut [u32],
     k: usize,
     out: &mut [u32],
     lines: &mut [u32],
     room: &mut [u32],
-) -> Replayed {
-    let first = read_word();
+) -> io::Result<Replayed> {
+    let first = read_word(rt)?;
     let Got::Word(count) = first else {
-        return Replayed::End;
+        return Ok(Replayed::End);
     };
     let file_words = count as usize;
-    if !read_words(words, file_words) {
-        return Replayed::End;
+    if !read_words(rt, words, file_words)? {
+        return Ok(Replayed::End);
     }
-    let refused = next_word();
-    let sheet_words = next_word() as usize;
-    if !read_words(sheet, sheet_words) {
-        return Replayed::End;
+    let refused = next_word(rt)?;
+    let sheet_words = next_word(rt)? as usize;
+    if !read_words(rt, sheet, sheet_words)? {
+        return Ok(Replayed::End);
     }
-    Replayed::Right(replay_fronts(
+    Ok(Replayed::Right(replay_fronts(
+        rt,
         &words[..],
         file_words,
         k,
@@ -220,7 +237,7 @@ fn replay_file(
         out,
         lines,
         room,
-    ))
+    )?))
 }
 
 // The next file's number, or past the last where the input has ended.
@@ -242,27 +259,28 @@ fn counted(replayed: Replayed) -> u64 {
 }
 
 fn replay_all(
+    rt: &(impl Input + Print),
     words: &mut [u32],
     sheet: &mut [u32],
     out: &mut [u32],
     lines: &mut [u32],
     room: &mut [u32],
-) {
+) -> io::Result<()> {
     let mut right: u64 = 0;
     let mut k = 0;
     while k < MOST_FILES {
-        let replayed = replay_file(words, sheet, k, out, lines, room);
+        let replayed = replay_file(rt, words, sheet, k, out, lines, room)?;
         right = wrapping_add_u64(right, counted(replayed));
         k = next(replayed, k);
     }
-    print_line(right);
+    print_line(rt, right)
 }
 
-fn main() {
+fn main(rt: HostRuntime) -> io::Result<()> {
     let mut words = [0u32; MOST_WORDS];
     let mut sheet = [0u32; MOST_WORDS];
     let mut out = [0u32; MOST_WORDS];
     let mut lines = [0u32; MOST_WORDS];
     let mut room = [0u32; MOST_ROOM];
-    replay_all(&mut words, &mut sheet, &mut out, &mut lines, &mut room);
+    replay_all(&rt, &mut words, &mut sheet, &mut out, &mut lines, &mut room)
 }

@@ -4,11 +4,11 @@
 
 ghost use Rattle.std.specs.Prelude.{◌<◌, ◌≤◌};
 
-use libc::STDIN_FILENO;
 use sheet_text::file::SHEET_WORDS;
 use sheet_text::input::{MOST_TEXT, sheet_text};
+use std::io;
 use std::num::wrapping_add_u64;
-use vector_io::{Got, print_line, read_word};
+use vector_io::{Got, print_line, read_full, read_word};
 
 // More bytes than any stored run reads.
 const INPUT_BYTES: usize = 32772;
@@ -30,23 +30,23 @@ enum Part {
     End,
 }
 
-fn read_bytes(bytes: &mut [u8], count: usize) -> bool {
+fn read_bytes(rt: &impl Input, bytes: &mut [u8], count: usize) -> io::Result<bool> {
     if bytes.len() < count {
-        return false;
+        return Ok(false);
     }
-    io::read_full(STDIN_FILENO, &mut bytes[..count]) == count
+    Ok(read_full(&mut rt.reader(), &mut bytes[..count])? == count)
 }
 
-fn read_part(bytes: &mut [u8]) -> Part {
-    let got = read_word();
+fn read_part(rt: &impl Input, bytes: &mut [u8]) -> io::Result<Part> {
+    let got = read_word(rt)?;
     let Got::Word(w) = got else {
-        return Part::End;
+        return Ok(Part::End);
     };
     let count = w as usize;
-    if read_bytes(bytes, count) {
-        return Part::Bytes(count);
+    if read_bytes(rt, bytes, count)? {
+        return Ok(Part::Bytes(count));
     }
-    Part::End
+    Ok(Part::End)
 }
 
 // A byte of what is printed, or 0 behind it.
@@ -99,32 +99,33 @@ fn is_right(
 }
 
 // 1 for a run that is right; the number of another is printed.
-fn judged(right: bool, k: usize) -> u64 {
+fn judged(rt: &impl Print, right: bool, k: usize) -> io::Result<u64> {
     if right {
-        return 1;
+        return Ok(1);
     }
-    print_line(k as u64);
-    0
+    print_line(rt, k as u64)?;
+    Ok(0)
 }
 
 fn replay_run(
+    rt: &(impl Input + Print),
     bytes: &mut [u8],
     expected: &mut [u8],
     k: usize,
     text: &mut [u8],
     lines: &mut [u32],
     room: &mut [u32],
-) -> Replayed {
-    let first = read_part(bytes);
+) -> io::Result<Replayed> {
+    let first = read_part(rt, bytes)?;
     let Part::Bytes(count) = first else {
-        return Replayed::End;
+        return Ok(Replayed::End);
     };
-    let second = read_part(expected);
+    let second = read_part(rt, expected)?;
     let Part::Bytes(length) = second else {
-        return Replayed::End;
+        return Ok(Replayed::End);
     };
     let right = is_right(&bytes[..], count, &expected[..], length, text, lines, room);
-    Replayed::Right(judged(right, k))
+    Ok(Replayed::Right(judged(rt, right, k)?))
 }
 
 // The next run's number, or past the last where the input has ended.
@@ -146,27 +147,35 @@ fn counted(replayed: Replayed) -> u64 {
 }
 
 fn replay_all(
+    rt: &(impl Input + Print),
     bytes: &mut [u8],
     expected: &mut [u8],
     text: &mut [u8],
     lines: &mut [u32],
     room: &mut [u32],
-) {
+) -> io::Result<()> {
     let mut right: u64 = 0;
     let mut k = 0;
     while k < MOST_RUNS {
-        let replayed = replay_run(bytes, expected, k, text, lines, room);
+        let replayed = replay_run(rt, bytes, expected, k, text, lines, room)?;
         right = wrapping_add_u64(right, counted(replayed));
         k = next(replayed, k);
     }
-    print_line(right);
+    print_line(rt, right)
 }
 
-fn main() {
+fn main(rt: HostRuntime) -> io::Result<()> {
     let mut bytes = [0u8; INPUT_BYTES];
     let mut expected = [0u8; MOST_TEXT];
     let mut text = [0u8; MOST_TEXT];
     let mut lines = [0u32; SHEET_WORDS];
     let mut room = [0u32; ROOM_WORDS];
-    replay_all(&mut bytes, &mut expected, &mut text, &mut lines, &mut room);
+    replay_all(
+        &rt,
+        &mut bytes,
+        &mut expected,
+        &mut text,
+        &mut lines,
+        &mut room,
+    )
 }

@@ -2,6 +2,7 @@
 ghost use Rattle.std.specs.Prelude.{◌≡◌, length};
 
 use crate::lines;
+use std::io;
 use tree::{extent, node, part, words};
 use tree_changes::grow::{Grown, Span};
 use tree_changes::{grow, limit};
@@ -39,63 +40,75 @@ fn case_of(head: &[u32]) -> Case
 }
 
 // What is read.
-fn reads(function: u32, x: Case, s: &[u32]) -> bool {
+fn reads(rt: &impl Print, function: u32, x: Case, s: &[u32]) -> io::Result<()> {
     match function {
-        1 => lines::extent(extent::whole(s, wide(x.a))),
-        2 => lines::extent(extent::after(s, wide(x.a), wide(x.b))),
-        3 => lines::truth(extent::is_tree(s, wide(x.a), wide(x.b))),
-        4 => lines::value(part::value_at(s, wide(x.a))),
-        5 => lines::found(part::find(s, wide(x.a), x.b)),
-        6 => lines::found(part::part(s, wide(x.a), x.b)),
-        7 => lines::found(part::nth(s, wide(x.a), wide(x.b))),
-        8 => lines::node_at(node::read(s, wide(x.a))),
-        _ => false,
+        1 => lines::extent(rt, extent::whole(s, wide(x.a))),
+        2 => lines::extent(rt, extent::after(s, wide(x.a), wide(x.b))),
+        3 => lines::truth(rt, extent::is_tree(s, wide(x.a), wide(x.b))),
+        4 => lines::value(rt, part::value_at(s, wide(x.a))),
+        5 => lines::found(rt, part::find(s, wide(x.a), x.b)),
+        6 => lines::found(rt, part::part(s, wide(x.a), x.b)),
+        7 => lines::found(rt, part::nth(s, wide(x.a), wide(x.b))),
+        8 => lines::node_at(rt, node::read(s, wide(x.a))),
+        _ => Ok(()),
     }
 }
 
 // What is tested.
-fn limits(function: u32, x: Case) -> bool {
+fn limits(rt: &impl Print, function: u32, x: Case) -> io::Result<()> {
     match function {
-        11 => lines::truth(limit::may_form(wide(x.a))),
-        12 => lines::truth(limit::may_gather(wide(x.a), wide(x.b))),
-        13 => lines::truth(limit::may_repeat(wide(x.a), wide(x.b))),
-        14 => lines::added(limit::may_add(wide(x.a), wide(x.b), wide(x.c), wide(x.d), wide(x.e))),
-        15 => lines::added(limit::may_copy(
-            wide(x.a),
-            wide(x.b),
-            wide(x.c),
-            wide(x.d),
-            wide(x.e),
-            wide(x.f),
-        )),
-        _ => false,
+        11 => lines::truth(rt, limit::may_form(wide(x.a))),
+        12 => lines::truth(rt, limit::may_gather(wide(x.a), wide(x.b))),
+        13 => lines::truth(rt, limit::may_repeat(wide(x.a), wide(x.b))),
+        14 => lines::added(
+            rt,
+            limit::may_add(wide(x.a), wide(x.b), wide(x.c), wide(x.d), wide(x.e)),
+        ),
+        15 => lines::added(
+            rt,
+            limit::may_copy(
+                wide(x.a),
+                wide(x.b),
+                wide(x.c),
+                wide(x.d),
+                wide(x.e),
+                wide(x.f),
+            ),
+        ),
+        _ => Ok(()),
     }
 }
 
 // What is written.
-fn writes(function: u32, x: Case, s: &[u32], out: &mut [u32]) -> bool {
+fn writes(rt: &impl Print, function: u32, x: Case, s: &[u32], out: &mut [u32]) -> io::Result<()> {
     match function {
-        21 => lines::extent(node::write_leaf(out, wide(x.a), x.b, x.c, x.d, x.e, x.f)),
-        22 => lines::extent(node::write_array(out, wide(x.a), x.b)),
-        23 => lines::extent(node::write_structure(out, wide(x.a), x.b)),
-        24 => lines::truth(node::set_name(out, wide(x.a), x.b)),
-        25 => lines::extent(words::copy(s, wide(x.a), wide(x.b), out, wide(x.c))),
-        26 => lines::extent(words::shift(out, wide(x.a), wide(x.b), wide(x.c))),
-        27 => lines::grown(grow::gather(s, wide(x.a), wide(x.b), out, wide(x.c), wide(x.d))),
-        28 => lines::grown(grow::repeat(out, wide(x.a), wide(x.b), wide(x.c))),
-        _ => false,
+        21 => lines::extent(
+            rt,
+            node::write_leaf(out, wide(x.a), x.b, x.c, x.d, x.e, x.f),
+        ),
+        22 => lines::extent(rt, node::write_array(out, wide(x.a), x.b)),
+        23 => lines::extent(rt, node::write_structure(out, wide(x.a), x.b)),
+        24 => lines::truth(rt, node::set_name(out, wide(x.a), x.b)),
+        25 => lines::extent(rt, words::copy(s, wide(x.a), wide(x.b), out, wide(x.c))),
+        26 => lines::extent(rt, words::shift(out, wide(x.a), wide(x.b), wide(x.c))),
+        27 => lines::grown(
+            rt,
+            grow::gather(s, wide(x.a), wide(x.b), out, wide(x.c), wide(x.d)),
+        ),
+        28 => lines::grown(rt, grow::repeat(out, wide(x.a), wide(x.b), wide(x.c))),
+        _ => Ok(()),
     }
 }
 
 // The words up to the answer, and from a place on; what is between them is scratch.
-fn shown(r: Grown, out: &[u32], from: usize) -> bool {
-    lines::grown(r);
+fn shown(rt: &impl Print, r: Grown, out: &[u32], from: usize) -> io::Result<()> {
+    lines::grown(rt, r)?;
     match r {
         Grown::Ends(e) => {
-            lines::words(out, 0, e);
-            lines::words(out, from, out.len())
+            lines::words(rt, out, 0, e)?;
+            lines::words(rt, out, from, out.len())
         }
-        _ => lines::words(out, 0, out.len()),
+        _ => lines::words(rt, out, 0, out.len()),
     }
 }
 
@@ -106,37 +119,42 @@ fn span(begin: u32, end: u32) -> Span {
     }
 }
 
-fn replaces(function: u32, x: Case, out: &mut [u32]) -> bool {
+fn replaces(rt: &impl Print, function: u32, x: Case, out: &mut [u32]) -> io::Result<()> {
     let tree = span(x.a, x.b);
     let part = span(x.c, x.d);
     let fresh = span(x.e, x.f);
     if function == 31 {
-        return shown(grow::replace(out, tree, part, fresh), out, wide(x.g));
+        return shown(rt, grow::replace(out, tree, part, fresh), out, wide(x.g));
     }
-    shown(grow::assign(out, tree, part, fresh, x.h), out, wide(x.g))
+    shown(
+        rt,
+        grow::assign(out, tree, part, fresh, x.h),
+        out,
+        wide(x.g),
+    )
 }
 
-fn answers(function: u32, x: Case, s: &[u32], out: &mut [u32]) -> bool {
+fn answers(rt: &impl Print, function: u32, x: Case, s: &[u32], out: &mut [u32]) -> io::Result<()> {
     if function < 10 {
-        return reads(function, x, s);
+        return reads(rt, function, x, s);
     }
     if function < 20 {
-        return limits(function, x);
+        return limits(rt, function, x);
     }
     if function < 30 {
-        writes(function, x, s, out);
-        return lines::words(out, 0, out.len());
+        writes(rt, function, x, s, out)?;
+        return lines::words(rt, out, 0, out.len());
     }
-    replaces(function, x, out)
+    replaces(rt, function, x, out)
 }
 
-pub fn run(head: &[u32], s: &[u32], out: &mut [u32])
+pub fn run(rt: &impl Print, head: &[u32], s: &[u32], out: &mut [u32]) -> io::Result<()>
     requires { length head.now ≡ 10 }
 {
     let function = head[0];
     let x = case_of(head);
     words::copy(s, 0, s.len(), out, 0);
-    lines::number(wide(function) as u64);
-    answers(function, x, s, out);
-    lines::ends();
+    lines::number(rt, wide(function) as u64)?;
+    answers(rt, function, x, s, out)?;
+    lines::ends(rt)
 }

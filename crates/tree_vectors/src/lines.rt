@@ -1,95 +1,92 @@
 // A case's answer on its line.
+use std::io;
 use tree::extent::Extent;
 use tree::node::{Node, NodeAt};
 use tree::part::{Found, Value};
 use tree_changes::grow::Grown;
 use tree_changes::limit::Added;
 
-pub fn number(n: u64) -> bool {
-    io::print_decimal(1, n);
-    io::write_all(1, b" ")
+pub fn number(rt: &impl Print, n: u64) -> io::Result<()> {
+    rt.print(n)?;
+    rt.print(" ")
 }
 
-pub fn ends() -> bool {
-    io::write_all(1, b"\n")
+pub fn ends(rt: &impl Print) -> io::Result<()> {
+    rt.print("\n")
 }
 
-pub fn truth(b: bool) -> bool {
-    if b {
-        io::write_all(1, b"yes ")
-    } else {
-        io::write_all(1, b"no ")
-    }
+pub fn truth(rt: &impl Print, b: bool) -> io::Result<()> {
+    if b { rt.print("yes ") } else { rt.print("no ") }
 }
 
-pub fn extent(x: Extent) -> bool {
+pub fn extent(rt: &impl Print, x: Extent) -> io::Result<()> {
     match x {
         Extent::Ends(e) => {
-            io::write_all(1, b"ends ");
-            number(e as u64)
+            rt.print("ends ")?;
+            number(rt, e as u64)
         }
-        Extent::Not => io::write_all(1, b"not "),
+        Extent::Not => rt.print("not "),
     }
 }
 
-pub fn grown(x: Grown) -> bool {
+pub fn grown(rt: &impl Print, x: Grown) -> io::Result<()> {
     match x {
         Grown::Ends(e) => {
-            io::write_all(1, b"ends ");
-            number(e as u64)
+            rt.print("ends ")?;
+            number(rt, e as u64)
         }
-        Grown::TooLarge => io::write_all(1, b"large "),
-        Grown::Not => io::write_all(1, b"not "),
+        Grown::TooLarge => rt.print("large "),
+        Grown::Not => rt.print("not "),
     }
 }
 
-pub fn added(x: Added) -> bool {
+pub fn added(rt: &impl Print, x: Added) -> io::Result<()> {
     match x {
-        Added::Fits => io::write_all(1, b"fits "),
-        Added::TooMany => io::write_all(1, b"many "),
-        Added::TooLarge => io::write_all(1, b"large "),
+        Added::Fits => rt.print("fits "),
+        Added::TooMany => rt.print("many "),
+        Added::TooLarge => rt.print("large "),
     }
 }
 
-pub fn found(x: Found) -> bool {
+pub fn found(rt: &impl Print, x: Found) -> io::Result<()> {
     match x {
         Found::At(b, e) => {
-            io::write_all(1, b"at ");
-            number(b as u64);
-            number(e as u64)
+            rt.print("at ")?;
+            number(rt, b as u64)?;
+            number(rt, e as u64)
         }
-        Found::Nothing => io::write_all(1, b"nothing "),
+        Found::Nothing => rt.print("nothing "),
     }
 }
 
-pub fn value(x: Value) -> bool {
+pub fn value(rt: &impl Print, x: Value) -> io::Result<()> {
     match x {
-        Value::Leaf => io::write_all(1, b"leaf "),
+        Value::Leaf => rt.print("leaf "),
         Value::Array(n) => {
-            io::write_all(1, b"array ");
-            number(n as u64)
+            rt.print("array ")?;
+            number(rt, n as u64)
         }
         Value::Structure(n) => {
-            io::write_all(1, b"structure ");
-            number(n as u64)
+            rt.print("structure ")?;
+            number(rt, n as u64)
         }
-        Value::Not => io::write_all(1, b"not "),
+        Value::Not => rt.print("not "),
     }
 }
 
-fn node(n: Node) -> bool {
-    number(n.name as u64);
-    number(n.kind as u64);
-    number(n.sign as u64);
-    number(n.low as u64);
-    number(n.high as u64);
-    number(n.width as u64)
+fn node(rt: &impl Print, n: Node) -> io::Result<()> {
+    number(rt, n.name as u64)?;
+    number(rt, n.kind as u64)?;
+    number(rt, n.sign as u64)?;
+    number(rt, n.low as u64)?;
+    number(rt, n.high as u64)?;
+    number(rt, n.width as u64)
 }
 
-pub fn node_at(x: NodeAt) -> bool {
+pub fn node_at(rt: &impl Print, x: NodeAt) -> io::Result<()> {
     match x {
-        NodeAt::Is(n) => node(n),
-        NodeAt::Past => io::write_all(1, b"past "),
+        NodeAt::Is(n) => node(rt, n),
+        NodeAt::Past => rt.print("past "),
     }
 }
 
@@ -111,6 +108,6 @@ fn mixed(sum: u64, word: u32) -> u64 {
     ((sum % 4294967291) * 1000003 + (word as u64)) % 4294967291
 }
 
-pub fn words(s: &[u32], from: usize, to: usize) -> bool {
-    number(sum(s, from, to))
+pub fn words(rt: &impl Print, s: &[u32], from: usize, to: usize) -> io::Result<()> {
+    number(rt, sum(s, from, to))
 }

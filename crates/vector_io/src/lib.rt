@@ -2,13 +2,30 @@
 #![tactic(auto)]
 
 ghost use Rattle.std.specs.Prelude.{◌<◌};
+ghost use Rattle.std.specs.Io.{ReadsAtMost};
 
-use libc::{STDIN_FILENO, STDOUT_FILENO};
+use std::io;
+use std::io::Read;
 
 #[derive(Clone, Copy)]
 pub enum Got {
     Word(u32),
     End,
+}
+
+// Reads until `bytes` are full or the input ends, and answers how many bytes it read.
+pub fn read_full(reader: &mut impl Read, bytes: &mut [u8]) -> io::Result<usize>
+    ensures { ReadsAtMost result bytes.new }
+{
+    let mut done = 0;
+    while done < bytes.len() {
+        let n = reader.read(&mut bytes[done..])?;
+        if n == 0 {
+            break;
+        }
+        done += n;
+    }
+    Ok(done)
 }
 
 fn wide(b: u8) -> u32
@@ -18,35 +35,32 @@ fn wide(b: u8) -> u32
 }
 
 // The next word, or that the input ends before it does.
-pub fn read_word() -> Got {
+pub fn read_word(rt: &impl Input) -> io::Result<Got> {
     let mut four = [0u8; 4];
-    let n = io::read_full(STDIN_FILENO, &mut four);
+    let n = read_full(&mut rt.reader(), &mut four)?;
     if n < 4 {
-        return Got::End;
+        return Ok(Got::End);
     }
     let low = wide(four[0]) + wide(four[1]) * 256;
     let high = wide(four[2]) + wide(four[3]) * 256;
-    Got::Word(low + high * 65536)
+    Ok(Got::Word(low + high * 65536))
 }
 
 // Fills the front of `words`; false where the input ends first or there is no room.
-pub fn read_words(words: &mut [u32], count: usize) -> bool {
+pub fn read_words(rt: &impl Input, words: &mut [u32], count: usize) -> io::Result<bool> {
     if words.len() < count {
-        return false;
+        return Ok(false);
     }
-    let mut i = 0;
-    while i < count {
-        let got = read_word();
+    for i in 0..count {
+        let got = read_word(rt)?;
         let Got::Word(w) = got else {
-            return false;
+            return Ok(false);
         };
         words[i] = w;
-        i += 1;
     }
-    true
+    Ok(true)
 }
 
-pub fn print_line(n: u64) {
-    io::print_decimal(STDOUT_FILENO, n);
-    io::write_all(STDOUT_FILENO, b"\n");
+pub fn print_line(rt: &impl Print, n: u64) -> io::Result<()> {
+    rt.println(n)
 }
