@@ -37,5 +37,7 @@ pub extern "C" fn wirkesu_read_memory(
     ensures lines { lines.new ≡ cleared lines.old }
     ensures room { room.new ≡ cleared room.old }
 {
-    start_values::start_memory::wirkesu_read_memory(file, number, bytes, nodes, characters, lines, room)
+    start_values::start_memory::wirkesu_read_memory(
+        file, number, bytes, nodes, characters, lines, room,
+    )
 }

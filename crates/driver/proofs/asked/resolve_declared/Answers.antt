@@ -35,7 +35,7 @@ pub shape_of-room-in-Full : goal.shape_of-room-in-Full
 shape_of-room-in-Full c = search declares
 
 pub returns-in-Full : goal.returns-in-Full
-returns-in-Full c = 
+returns-in-Full c =
     let v = c.loop-t.invariant in
     let e = c.ask_declared-stored.ensures in
     (front-then c.clear_index.ensures.kept (front-then v.2 e.0), declaring-full v.1 (omega (arith, v.3, c.loop-t-test.true)) e.1 c.in-Full.is)
@@ -47,7 +47,7 @@ pub loop-t-smaller : goal.loop-t-smaller
 loop-t-smaller c = search declares
 
 pub loop-t-preserved : goal.loop-t-preserved
-loop-t-preserved c = 
+loop-t-preserved c =
     let v = c.loop-t.invariant in
     let e = c.ask_declared-stored.ensures in
     let k = c.ask_declared-stored.auto in
@@ -63,6 +63,6 @@ pub shape_of-room : goal.shape_of-room
 shape_of-room c = search declares
 
 pub returns : goal.returns
-returns c = 
+returns c =
     let v = c.loop-t.invariant in
     (front-then c.clear_index.ensures.kept v.2, declaring-done v.1 v.3 c.loop-t-test.false)

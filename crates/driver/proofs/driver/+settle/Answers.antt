@@ -35,7 +35,7 @@ pub begin_type-requires : goal.begin_type-requires
 begin_type-requires t c = let v = c.loop-d.invariant in omega (arith, v.0.tables)
 
 pub settle-stored-requires : goal.settle-stored-requires
-settle-stored-requires t c = 
+settle-stored-requires t c =
     let p = c.requires in
     let v = c.loop-d.invariant in
     let k = c.work_out-built.auto in
@@ -47,14 +47,14 @@ pub enum_known-stored : goal.enum_known-stored
 enum_known-stored t c = search rules
 
 pub loop-d-smaller : goal.loop-d-smaller
-loop-d-smaller t c = 
+loop-d-smaller t c =
     let v = c.loop-d.invariant in
     let fr = goes-fresh v.1 c.work_out-built.ensures c.in-Wanted.is in
     let r = resolves-fresh fr c.begin_type.ensures.marks c.settle-stored.ensures.1 in
     r.fewer
 
 pub loop-d-preserved : goal.loop-d-preserved
-loop-d-preserved t c = 
+loop-d-preserved t c =
     let v = c.loop-d.invariant in
     let w = c.work_out-built.ensures in
     let q = c.in-Wanted.is in
@@ -78,7 +78,7 @@ pub shape_of-room-in-Full : goal.shape_of-room-in-Full
 shape_of-room-in-Full t c = let v = c.loop-d.invariant in let k = c.work_out-built.auto in let m = c.settle-stored.auto in search rules
 
 pub returns-in-Full : goal.returns-in-Full
-returns-in-Full t c = 
+returns-in-Full t c =
     let v = c.loop-d.invariant in
     let w = c.work_out-built.ensures in
     let q = c.in-Wanted.is in

@@ -33,7 +33,7 @@ pub loop-t-smaller : goal.loop-t-smaller
 loop-t-smaller c = search writing
 
 pub loop-t-preserved : goal.loop-t-preserved
-loop-t-preserved c = 
+loop-t-preserved c =
     let k = c.requires.0 in
     let i = c.loop-t.invariant in
     let h = c.loop-t-test.true in

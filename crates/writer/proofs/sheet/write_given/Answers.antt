@@ -5,7 +5,7 @@ use Rattle.writer.proofs.Whole.{resolved}
 use Rattle.writer.proofs.sheet.write_given.Goals as goal
 
 pub write_resolved-requires : goal.write_resolved-requires
-write_resolved-requires c = 
+write_resolved-requires c =
     let p = c.requires in
     let s = c.resolve_types-stored in
     let k = s.auto in

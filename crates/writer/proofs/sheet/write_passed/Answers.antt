@@ -12,7 +12,7 @@ pub slice_bounds-write_lowest-end-2 : goal.slice_bounds-write_lowest-end-2
 slice_bounds-write_lowest-end-2 c = prefix-zeros c.count-many.result 1024 (omega (arith, few-types _ (passed-accepted c.requires), c.count-many.ensures))
 
 pub write_lowest-requires : goal.write_lowest-requires
-write_lowest-requires c = 
+write_lowest-requires c =
     let p = c.requires in
     let n = c.count-many in
     let s = c.source_of-source.ensures in
