@@ -1,4 +1,4 @@
-//! Links the static library that `rt staticlib tree_c` writes.
+//! Links the static library that `tools/staticlib tree_c` writes.
 
 use std::env;
 use std::path::PathBuf;

@@ -1,4 +1,4 @@
-//! Links the static library that `rt staticlib start_values` writes.
+//! Links the static library that `tools/staticlib start_values` writes.
 
 use std::env;
 use std::path::PathBuf;
