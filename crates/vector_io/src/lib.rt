@@ -1,4 +1,4 @@
-// What programs that replay stored vectors read and print: words from standard input, each of four bytes, the least first, and numbers, each on its line.
+// What programs read and print: the bytes of a reader; words from standard input, each of four bytes, the least first; and numbers, each on its line.
 #![tactic(auto)]
 
 ghost use Rattle.std.specs.Prelude.{◌<◌};
