@@ -1,16 +1,15 @@
 -- Parts that are gathered one behind the other under a head: what is left comes to what the whole comes to. Assumes nothing.
-use mathlib.Core.Path.{◌≡◌, refl, ap, sym, subst, ◌∙◌, fun_ext}
-use mathlib.Core.Bool.{Bool, true, false, not}
+use mathlib.Core.Path.{◌≡◌, refl, ap, sym, ◌∙◌}
+use mathlib.Core.Bool.{Bool, true, false}
 use mathlib.Core.List.{List}
-use Prim.Native.Nat.{ℕ, zero, suc, ◌+◌, ◌-◌, ◌*◌, ◌≤◌, ◌<◌}
+use Prim.Native.Nat.{ℕ, suc, ◌+◌, ◌-◌, ◌*◌, ◌≤◌, ◌<◌}
 use native.Mathlib.Omega.{arith}
 use lib.ListN.{length, take}
 use lib.Seq.{paste}
 use Rattle.definition.specs.declared.records.Place.{Place}
-use Rattle.definition.specs.Base.{choose}
 use Rattle.definition.specs.Layout.{word}
-use Rattle.definition.specs.Tree.{Tree, Trees, tnil, tcons, many, nodes, nodes_in, flatten, flatten_all, structure_tree, join, tree_words}
-use Rattle.definition.specs.Ask.{Result, ok, none, large, Ask, done, ◌>>=◌, give, and_more}
+use Rattle.definition.specs.Tree.{Tree, Trees, tnil, many, nodes_in, flatten, flatten_all, structure_tree, join, tree_words}
+use Rattle.definition.specs.Ask.{Result, ok, none, large, Ask, and_more}
 use Rattle.definition.specs.Resolve.{Memo}
 use Rattle.definition.specs.Peek.{Peek, got, wants, peek}
 use Rattle.definition.specs.Parts.{field, structured}
@@ -24,7 +23,7 @@ use Rattle.build.specs.declared.built.Built.{Built}
 use Rattle.build.specs.declared.built.Built.TheVariants.{Ends}
 use Rattle.build.specs.Built.{Gives, Memory, Builds}
 use Rattle.build.specs.Fields.{HeadsStructure}
-use Rattle.build.proofs.Peeks.{then_peek, peek-then, then-assoc, NoEnd, gives-fails, EndsAt, gives-ends, kept-before}
+use Rattle.build.proofs.Peeks.{then_peek, peek-then, then-assoc, NoEnd, gives-fails, gives-ends, kept-before}
 use Rattle.build.proofs.leaves.Laws.{paste-kept}
 use Rattle.build.proofs.Gathers.{join-nil, behind, behind-nothing, behind-both, peek-more, no-trees, peek-structured, one_field, many-nil, nodes-nil, structure-gives}
 use Rattle.initial.specs.Stated.{part_start, is_part, part_ask, parts_from, BuildsPart}

@@ -1,11 +1,7 @@
 -- The work words have room for every variable and every type, where they have for every run of entries and one tree more. Assumes nothing.
-use mathlib.Core.Path.{◌≡◌, refl, ap, sym, subst, ◌∙◌}
-use mathlib.Core.Bool.{Bool, true, false}
 use mathlib.Core.List.{List}
 use Prim.Native.Nat.{ℕ, zero, suc, ◌+◌, ◌-◌, ◌*◌, ◌≤◌, ◌<◌, max}
 use native.Mathlib.Omega.{arith}
-use lib.Dec.{eqb}
-use borrow.Author.Tests.{ne_eqb, eq-eqb}
 use Rattle.definition.specs.declared.records.Place.{Place}
 use Rattle.definition.specs.declared.records.Initializer.{Initializer}
 use Rattle.definition.specs.declared.records.Initializer.TheVariants as init
@@ -15,7 +11,7 @@ use Rattle.definition.specs.Layout.{word, count, elements, variables, initialize
 use Rattle.definition.specs.Records.{initializer_at, declaration_at, type_shape}
 use Rattle.definition.specs.Ask.{Result, ok, none, large}
 use Rattle.definition.specs.Places.{place_of, field_place, variable_place}
-use Rattle.definition.specs.Depth.{deepest, entry_depth, shape_depth, levels}
+use Rattle.definition.specs.Depth.{deepest, shape_depth, levels}
 use Rattle.laws.specs.Asks.{OnOk}
 use Rattle.laws.specs.Accepted.{Accepted, element-points, variable-points}
 use Rattle.laws.specs.Pointed.{InitializerPointed, initializer-pointed, DeclarationPointed, declaration-pointed}

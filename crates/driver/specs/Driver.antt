@@ -4,7 +4,7 @@ use Rattle.definition.specs.Base.{pick}
 use Rattle.definition.specs.Layout.{count, types}
 use Rattle.definition.specs.Ask.{Ask}
 use Rattle.definition.specs.Starting.{body}
-use Rattle.definition.specs.Resolve.{Look, known, unknown, Memo, at, put, Ran, run, resolve}
+use Rattle.definition.specs.Resolve.{Look, known, unknown, Memo, put, Ran, run, resolve}
 use Rattle.definition.specs.Lines.{outcome_words}
 use Rattle.definition.specs.Answers.{room_words}
 use Rattle.laws.specs.Accepted.{Accepted}

@@ -1,16 +1,14 @@
 -- Answers for one computation as answers for another. Assumes nothing.
-use mathlib.Core.Path.{◌≡◌, refl, ap, sym, ◌∙◌}
+use mathlib.Core.Path.{◌≡◌, refl, ap}
 use mathlib.Core.List.{List}
 use Prim.Native.Nat.{ℕ}
 use Rattle.definition.specs.declared.records.Place.{Place}
 use Rattle.definition.specs.Tree.{flatten}
-use Rattle.definition.specs.Ask.{Result, ok, none, Outcome, Ask, done, bind, ◌>>=◌, give, nothing}
-use Rattle.definition.specs.Resolve.{Memo}
-use Rattle.definition.specs.Peek.{Peek, got, peek}
+use Rattle.definition.specs.Ask.{Result, ok, none, Outcome, Ask, done, bind, ◌>>=◌, nothing}
 use Rattle.laws.specs.Steps.{peek-nothing}
 use Rattle.build.specs.declared.built.Built.{Built}
 use Rattle.build.specs.declared.built.Built.TheVariants.{None}
-use Rattle.build.specs.Built.{Gives, Memory, Builds}
+use Rattle.build.specs.Built.{Builds}
 use Rattle.initial.specs.Stated.{Lays}
 
 module _ {A : Type 0} {f known store : List ℕ} {words : A → List ℕ} {at : ℕ} {old : List ℕ} {r : Built} {new : List ℕ} where

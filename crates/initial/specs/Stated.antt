@@ -1,12 +1,12 @@
 -- The parts of initializers and declarations that building functions form one by one.
-use Rattle.std.specs.Prelude.{◌≡◌, Bool, true, List, ℕ, zero, suc, ◌+◌, ◌-◌, ◌*◌, ◌^◌, ◌≤◌, ◌<◌, eqb, length, take}
+use Rattle.std.specs.Prelude.{◌≡◌, Bool, true, List, ℕ, zero, suc, ◌+◌, ◌-◌, ◌*◌, ◌^◌, ◌≤◌, ◌<◌, eqb, take}
 use Rattle.definition.specs.declared.records.Place.{Place}
 use Rattle.definition.specs.Base.{pick, choose, on_link, inline}
-use Rattle.definition.specs.Layout.{word, count, types, elements, variables, initializers, entries, constants}
-use Rattle.definition.specs.Records.{initializer_at, named_type, declaration_at}
+use Rattle.definition.specs.Layout.{word, count, elements, variables, initializers, entries, constants}
+use Rattle.definition.specs.Records.{initializer_at, named_type}
 use Rattle.definition.specs.Syntax.{inits_at}
 use Rattle.definition.specs.Tree.{Tree, Trees, tnil, flatten, flatten_all, tree_words}
-use Rattle.definition.specs.Ask.{Result, ok, Outcome, Ask, done, bind, ◌>>=◌, give, nothing, type_default, and_more}
+use Rattle.definition.specs.Ask.{Result, Outcome, Ask, done, ◌>>=◌, give, nothing, type_default, and_more}
 use Rattle.definition.specs.Places.{field_place}
 use Rattle.definition.specs.Parts.{if_stated, enumerated_as, reference_as, field, is_instance}
 use Rattle.definition.specs.Starting.{applied, array_of, constant_as, initializer, declaration, over_base, implicit, alias_default_by}

@@ -1,10 +1,10 @@
 -- A law for each call and each return of check.rt. Assumes nothing.
 use mathlib.Core.Path.{◌≡◌, ap, sym, ◌∙◌}
 use mathlib.Core.Bool.{Bool, true, false}
-use mathlib.Core.List.{List, [], ◌++◌}
+use mathlib.Core.List.{List, ◌++◌}
 use Prim.Native.Nat.{ℕ, ◌+◌, ◌-◌, ◌≤◌, ◌<◌}
 use native.Mathlib.Omega.{arith}
-use lib.Dec.{eqb, leb}
+use lib.Dec.{leb}
 use lib.ListN.{length}
 use borrow.Author.Rules.{rules}
 use borrow.Author.Tests.{not-true, not-false, ne_eqb, eq-eqb, le-leb, lt-leb}
@@ -12,10 +12,9 @@ use borrow.Rule.Slice.PartMut.{put_mid}
 use Rattle.definition.specs.declared.answers.Acceptance.{Acceptance}
 use Rattle.definition.specs.declared.answers.Acceptance.TheVariants as acceptance
 use Rattle.definition.specs.declared.answers.CheckAnswer.TheVariants as checking
-use Rattle.definition.specs.Base.{choose}
 use Rattle.definition.specs.Layout.{count, shapes, types}
 use Rattle.definition.specs.Accept.{need, verdict}
-use Rattle.definition.specs.Answers.{refuses, says, acceptance_says, accept_answer, room_words, check_says, check_refused, pass_answer}
+use Rattle.definition.specs.Answers.{acceptance_says, accept_answer, room_words, check_says, check_refused, pass_answer}
 use Rattle.definition.specs.Sheet.{check_answer}
 use Rattle.laws.specs.Accepted.{Accepted, accepted, few-types}
 use Rattle.laws.specs.Depths.{few-shapes}

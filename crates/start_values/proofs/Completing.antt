@@ -6,7 +6,6 @@ use Prim.Native.Nat.{ℕ, ◌*◌, ◌≤◌}
 use native.Mathlib.Omega.{arith}
 use lib.Dec.{eqb, leb}
 use Rattle.definition.specs.declared.answers.CompletedAnswer.{CompletedAnswer}
-use Rattle.definition.specs.declared.answers.CompletedAnswer.TheVariants as completing
 use Rattle.definition.specs.Base.{pick, choose}
 use Rattle.definition.specs.Tree.{Tree, nodes, node_words, most_nodes}
 use Rattle.definition.specs.Ask.{ok, none, large, Outcome}

@@ -4,13 +4,13 @@
 use mathlib.Core.Path.{◌≡◌, refl, ap, sym, ◌∙◌}
 use mathlib.Core.Bool.{Bool, true, false}
 use mathlib.Core.Logic.{◌↔◌}
-use mathlib.Core.List.{List, [], ◌∷◌, ◌++◌}
+use mathlib.Core.List.{List, [], ◌∷◌}
 use Prim.Native.Nat.{ℕ, ◌≤◌}
 use native.Mathlib.Omega.{arith}
 use lib.Dec.{eqb, leb}
 use lib.ListN.{length, take, drop}
 use lib.Seq.{take-append_seam}
-use borrow.Author.Tests.{eqb-true, eqb-false, eq-eqb, leb-true}
+use borrow.Author.Tests.{eqb-true, eqb-false, eq-eqb}
 use Rattle.definition.specs.declared.answers.SheetAnswer.{SheetAnswer}
 use Rattle.definition.specs.declared.answers.SheetAnswer.TheVariants as writing
 use Rattle.definition.specs.declared.answers.CheckAnswer.{CheckAnswer}
@@ -20,7 +20,7 @@ use Rattle.definition.specs.Layout.{count, types}
 use Rattle.definition.specs.Accept.{need, verdict, ends_right, counts_right, words_right, points_right, shapes_differ, arrays_small}
 use Rattle.definition.specs.Uses.{Ranking, ranked, circle, uses, ranks_of, rank_at}
 use Rattle.definition.specs.Sheet.{on_ranking, sheet_with, sheet_words}
-use Rattle.definition.specs.Answers.{Says, refuses, says, answered, over, room_words, sheet_says, check_says, enough_sheet, write_refused, written_answer, ranked_answer, ranked_out, write_answer, write_out, pass_answer}
+use Rattle.definition.specs.Answers.{refuses, says, over, room_words, sheet_says, check_says, enough_sheet, write_refused, written_answer, ranked_answer, ranked_out, write_answer, write_out, pass_answer}
 use Rattle.laws.specs.Ranks.{Lowest}
 use Rattle.laws.specs.Circles.{Circling}
 use Rattle.laws.specs.Passing.{Right}

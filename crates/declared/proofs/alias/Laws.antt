@@ -2,10 +2,8 @@
 use borrow.Enum.Refused.{opened}
 use mathlib.Core.Path.{◌≡◌, refl, ap, sym, subst, ◌∙◌}
 use mathlib.Core.List.{List, [], ◌∷◌}
-use Prim.Native.Nat.{ℕ, zero, suc, ◌+◌, ◌-◌, ◌*◌, ◌≤◌, ◌<◌, max}
+use Prim.Native.Nat.{ℕ, suc, ◌+◌, ◌-◌, ◌*◌, ◌≤◌, ◌<◌}
 use native.Mathlib.Omega.{arith}
-use lib.Dec.{eqb}
-use lib.ListN.{length, take}
 use borrow.Author.Rules.{rules}
 use borrow.Author.Tests.{ne_eqb, eq-eqb}
 use types.Run.{OneOf, miss}
@@ -14,31 +12,28 @@ use Rattle.definition.specs.contracts.records.Initializer.{the_type}
 use Rattle.definition.specs.declared.records.Initializer.{Initializer}
 use Rattle.definition.specs.declared.records.Initializer.TheVariants as init
 use Rattle.definition.specs.declared.records.Place.{Place}
-use Rattle.definition.specs.Base.{choose, on_link}
+use Rattle.definition.specs.Base.{on_link}
 use Rattle.definition.specs.Layout.{word, count, initializers, constants}
 use Rattle.definition.specs.Records.{initializer_at, named_type}
-use Rattle.definition.specs.Tree.{Tree, flatten, tree_words}
-use Rattle.definition.specs.Ask.{Result, ok, none, large, Outcome, Ask, done, bind, give, nothing, type_default, ◌>>=◌}
+use Rattle.definition.specs.Tree.{flatten}
+use Rattle.definition.specs.Ask.{ok, none, large, Outcome, Ask, give, nothing, type_default}
 use Rattle.definition.specs.Resolve.{Memo}
 use Rattle.definition.specs.Peek.{Peek, got, wants, peek}
 use Rattle.definition.specs.Parts.{if_stated, name_default}
 use Rattle.definition.specs.Defaults as Defaults
 use Rattle.definition.specs.Starting.{implicit, constant_as, spec_default, alias_default_by, over_base, subrange_default}
-use Rattle.laws.specs.Accepted.{Accepted}
 use Rattle.laws.specs.Links.{Link, Naming}
 use Rattle.laws.specs.Used.{IsType}
-use Rattle.laws.specs.Pointed.{InitializerPointed, initializer-pointed}
 use Rattle.laws.specs.Peeking.{on_got, peek-bind}
 use Rattle.laws.specs.Steps.{peek-done, peek-give, peek-nothing}
 use Rattle.places.proofs.field.Laws.{linked-type}
 use Rattle.build.specs.declared.built.Built.{Built}
-use Rattle.build.specs.declared.built.Built.TheVariants.{Ends, None, TooLarge, Wanted}
+use Rattle.build.specs.declared.built.Built.TheVariants.{None, TooLarge, Wanted}
 use Rattle.build.specs.contracts.built.Built as built
-use Rattle.build.specs.Built.{answer_of, Gives, Builds, Memory}
+use Rattle.build.specs.Built.{Gives, Builds}
 use Rattle.build.specs.Parts.{implicit_levels}
-use Rattle.build.proofs.Levels.{levels-some}
 use Rattle.initial.specs.declared.values.Stated.TheVariants as stated
-use Rattle.initial.specs.Stated.{Lays, stated_as, stated_or, array_or, members_over, ArrayIn, MembersIn, AliasIn, SpecIn, ValueIn, StartIn, Over, alias_default, simple_default, base_default}
+use Rattle.initial.specs.Stated.{Lays, stated_as, stated_or, array_or, members_over, AliasIn, SpecIn, ValueIn, StartIn, Over, alias_default, simple_default, base_default}
 use Rattle.initial.specs.Rooms.{entry_levels, alias_levels_by, alias_levels, simple_levels}
 use Rattle.initial.proofs.Alike.{same, no_value_lem}
 use Rattle.initial.proofs.stated.Laws.{stated-in, implicit-some, implicit-tree, stated}

@@ -3,12 +3,11 @@ use borrow.Enum.Refused.{opened}
 use mathlib.Core.Path.{◌≡◌, refl, ap, sym, subst, ◌∙◌, fun_ext}
 use mathlib.Core.Bool.{Bool, true, false}
 use mathlib.Core.List.{List, [], ◌∷◌}
-use Prim.Native.Nat.{ℕ, zero, suc, ◌+◌, ◌-◌, ◌*◌, ◌^◌, ◌≤◌, ◌<◌, max}
+use Prim.Native.Nat.{ℕ, zero, suc, ◌+◌, ◌-◌, ◌*◌, ◌^◌, ◌≤◌, ◌<◌}
 use native.Mathlib.Omega.{arith}
 use lib.Dec.{eqb, lit<}
-use lib.ListN.{length}
 use borrow.Author.Rules.{rules}
-use borrow.Author.Tests.{ne_eqb, eq-eqb}
+use borrow.Author.Tests.{ne_eqb}
 use types.Run.{OneOf, miss}
 use denote.Enum.Declared.{tag_of}
 use Rattle.definition.specs.contracts.records.Declaration.{the_type}
@@ -18,11 +17,11 @@ use Rattle.definition.specs.declared.records.Place.{Place}
 use Rattle.definition.specs.Base.{choose, inline}
 use Rattle.definition.specs.Layout as Layout
 use Rattle.definition.specs.Layout.{word, count, elements, variables, most_records, limits_of_records}
-use Rattle.definition.specs.Records.{alias_base, declaration_at, named_type, initializer_at}
-use Rattle.definition.specs.Tree.{Tree, Trees, flatten, null_tree, tree_words}
-use Rattle.definition.specs.Ask.{Result, ok, none, Outcome, Ask, done, ◌>>=◌, bind, give, nothing, and_more}
+use Rattle.definition.specs.Records.{alias_base, declaration_at, named_type}
+use Rattle.definition.specs.Tree.{Tree, Trees, flatten, null_tree}
+use Rattle.definition.specs.Ask.{Result, Ask, ◌>>=◌, bind, give, nothing, and_more}
 use Rattle.definition.specs.Places.{place_of}
-use Rattle.definition.specs.Uses.{named_use, initializer_uses, declaration_uses}
+use Rattle.definition.specs.Uses.{named_use, declaration_uses}
 use Rattle.definition.specs.Parts.{structured, field, is_instance}
 use Rattle.definition.specs.Defaults as Defaults
 use Rattle.definition.specs.Starting.{implicit, spec_default, subrange_default, declaration, variable_field, elements_from, instance_from, body_by, body}
@@ -38,7 +37,7 @@ use Rattle.build.specs.Built.{Builds}
 use Rattle.build.specs.Parts.{implicit_levels}
 use Rattle.build.proofs.Levels.{levels-some}
 use Rattle.initial.specs.declared.values.Stated.TheVariants as stated
-use Rattle.initial.specs.Stated.{Lays, stated_as, stated_or, array_or, ArrayIn, AliasIn, SpecIn, ValueIn, StartIn, element_start, variable_start, part_start, is_part, part_ask, parts_from, PartIn, PartsIn, simple_default, alias_default, base_default}
+use Rattle.initial.specs.Stated.{Lays, stated_as, stated_or, array_or, ArrayIn, AliasIn, SpecIn, ValueIn, StartIn, element_start, variable_start, part_start, is_part, part_ask, parts_from, PartsIn, simple_default, alias_default, base_default}
 use Rattle.initial.specs.Rooms.{entry_levels, parts_levels, simple_levels, body_levels_by, body_levels}
 use Rattle.initial.proofs.Alike.{same, laid, no_value_lem}
 use Rattle.initial.proofs.start.Laws.{constants-in, max-left, max-right}

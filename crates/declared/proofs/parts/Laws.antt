@@ -1,6 +1,6 @@
 -- A law for each return of parts.rt, and what its calls require. Assumes nothing.
-use mathlib.Core.Path.{◌≡◌, refl, ap, sym, subst, ◌∙◌}
-use mathlib.Core.Bool.{Bool, true, false, ◌||◌}
+use mathlib.Core.Path.{◌≡◌, refl, ap, sym, ◌∙◌}
+use mathlib.Core.Bool.{Bool, true, false}
 use mathlib.Core.List.{List}
 use Prim.Native.Nat.{ℕ, zero, suc, ◌+◌, ◌-◌, ◌*◌, ◌≤◌, ◌<◌}
 use native.Mathlib.Omega.{arith}
@@ -10,20 +10,18 @@ use lib.Seq.{take-set-le}
 use borrow.Author.Rules.{rules}
 use borrow.Author.Tests.{ne_eqb, eq-eqb, ltb-true, ltb-false}
 use Rattle.definition.specs.declared.records.Place.{Place}
-use Rattle.definition.specs.Base.{pick, choose}
+use Rattle.definition.specs.Base.{pick}
 use Rattle.definition.specs.Layout.{word, count, elements, variables, initializers}
-use Rattle.definition.specs.Tree.{Tree, Trees, nodes, flatten, flatten_all, most_nodes, tree_words}
-use Rattle.definition.specs.Ask.{Result, ok, none, Outcome, Ask, done, nothing, ◌>>=◌}
+use Rattle.definition.specs.Tree.{nodes, flatten, flatten_all, most_nodes, tree_words}
+use Rattle.definition.specs.Ask.{ok, Outcome, Ask}
 use Rattle.definition.specs.Resolve.{Memo}
-use Rattle.definition.specs.Peek.{Peek, got, peek}
+use Rattle.definition.specs.Peek.{peek}
 use Rattle.definition.specs.Places.{field_place}
 use Rattle.definition.specs.Parts.{field, is_instance}
 use Rattle.definition.specs.Starting.{initializer}
-use Rattle.definition.specs.Depth.{deepest}
 use Rattle.laws.specs.Accepted.{Accepted, element-points}
 use Rattle.laws.specs.Depths.{deepest-at}
 use Rattle.laws.specs.Whole.{flatten-length, nodes-some}
-use Rattle.tree.specs.Words.{Stand}
 use Rattle.tree.proofs.Standing.{named-there}
 use Rattle.tree.proofs.Fields.{stands-long}
 use Rattle.places.specs.Inside.{PlaceIn, field_found}
@@ -32,12 +30,12 @@ use Rattle.places.specs.declared.field.Found.{Found}
 use Rattle.places.specs.declared.field.Found.TheVariants as found
 use Rattle.build.specs.declared.built.Built.{Built}
 use Rattle.build.specs.declared.built.Built.TheVariants.{Ends, None, TooLarge}
-use Rattle.build.specs.Built.{Gives, Memory, Builds, Ready}
+use Rattle.build.specs.Built.{Builds, Ready}
 use Rattle.build.specs.Fields.{NamesField}
 use Rattle.build.proofs.Peeks.{then_peek, peek-then, NoEnd, ends-not, gives-fails, EndsAt, gives-ends, built-ends}
 use Rattle.build.proofs.defaults.Laws.{peek-named, peek-over, one-gives}
-use Rattle.initial.specs.Stated.{element_start, variable_start, part_start, is_part, part_ask, parts_from, BuildsPart, PartIn, PartsIn}
-use Rattle.initial.specs.Rooms.{found_levels, init_levels, variable_levels, element_levels, part_levels, parts_levels}
+use Rattle.initial.specs.Stated.{element_start, variable_start, part_start, is_part, part_ask, BuildsPart, PartIn}
+use Rattle.initial.specs.Rooms.{init_levels, variable_levels, element_levels, part_levels, parts_levels}
 use Rattle.initial.proofs.Alike.{same, no_value_lem, at-found, at_none}
 
 -- ---- `element_start`

@@ -2,9 +2,8 @@
 use borrow.Enum.Refused.{opened}
 use mathlib.Core.Path.{◌≡◌, refl, ap, sym, subst, ◌∙◌}
 use mathlib.Core.List.{List, [], ◌∷◌}
-use Prim.Native.Nat.{ℕ, zero, suc, ◌+◌, ◌-◌, ◌*◌, ◌≤◌, ◌<◌, max}
+use Prim.Native.Nat.{ℕ, zero, suc, ◌+◌, ◌*◌, ◌≤◌, ◌<◌, max}
 use native.Mathlib.Omega.{arith}
-use lib.ListN.{length}
 use borrow.Author.Rules.{rules}
 use types.Run.{OneOf, miss}
 use denote.Enum.Declared.{tag_of}
@@ -14,17 +13,17 @@ use Rattle.definition.specs.declared.records.Initializer.TheVariants as init
 use Rattle.definition.specs.declared.records.Place.{Place}
 use Rattle.definition.specs.Layout.{count, initializers}
 use Rattle.definition.specs.Records.{initializer_at}
-use Rattle.definition.specs.Tree.{flatten, tree_words}
-use Rattle.definition.specs.Ask.{Result, ok, none, Outcome, Ask, done, give, nothing, ◌>>=◌}
+use Rattle.definition.specs.Tree.{flatten}
+use Rattle.definition.specs.Ask.{nothing}
 use Rattle.definition.specs.Defaults as Defaults
 use Rattle.definition.specs.Starting.{default_of, initializer_by, initializer}
 use Rattle.laws.specs.Accepted.{Accepted}
 use Rattle.laws.specs.Links.{Link}
 use Rattle.laws.specs.Pointed.{ConstantOf, InitializerPointed, initializer-pointed}
 use Rattle.build.specs.declared.built.Built.{Built}
-use Rattle.build.specs.declared.built.Built.TheVariants.{Ends, None}
+use Rattle.build.specs.declared.built.Built.TheVariants.{None}
 use Rattle.build.specs.Built.{Builds}
-use Rattle.build.specs.Parts.{implicit_levels, start_levels}
+use Rattle.build.specs.Parts.{start_levels}
 use Rattle.initial.specs.declared.values.Stated.TheVariants as stated
 use Rattle.initial.specs.Stated.{ValueIn, stated_as, stated_or, array_or, members_over, ArrayIn, MembersIn}
 use Rattle.initial.specs.Rooms.{entry_levels, init_levels_by, init_levels}

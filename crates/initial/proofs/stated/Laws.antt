@@ -1,21 +1,19 @@
 -- A law for each return of stated.rt, and what its calls require. Assumes nothing.
-use mathlib.Core.Path.{◌≡◌, refl, ap, sym, ◌∙◌}
+use mathlib.Core.Path.{◌≡◌, ap, ◌∙◌}
 use mathlib.Core.List.{List}
 use Prim.Native.Nat.{ℕ, zero, suc, ◌+◌, ◌-◌, ◌*◌, ◌≤◌, ◌<◌}
 use native.Mathlib.Omega.{arith}
-use lib.Dec.{eqb}
-use lib.ListN.{length}
 use borrow.Author.Rules.{rules}
 use borrow.Author.Tests.{ne_eqb, eq-eqb}
 use Rattle.definition.specs.declared.records.Place.{Place}
-use Rattle.definition.specs.Base.{choose, on_link, inline}
-use Rattle.definition.specs.Layout.{count, types, constants}
+use Rattle.definition.specs.Base.{on_link, inline}
+use Rattle.definition.specs.Layout.{count, constants}
 use Rattle.definition.specs.Syntax.{inits_at}
-use Rattle.definition.specs.Tree.{Tree, flatten, tree_words}
-use Rattle.definition.specs.Ask.{Result, ok, none, Outcome, Ask, done, give, nothing, ◌>>=◌, type_default}
+use Rattle.definition.specs.Tree.{Tree, flatten}
+use Rattle.definition.specs.Ask.{ok, Outcome, Ask, nothing, type_default}
 use Rattle.definition.specs.Resolve.{Memo}
-use Rattle.definition.specs.Peek.{Peek, got, peek}
-use Rattle.definition.specs.Parts.{if_stated, enumerated_as, reference_as, name_default}
+use Rattle.definition.specs.Peek.{got, peek}
+use Rattle.definition.specs.Parts.{if_stated, name_default}
 use Rattle.definition.specs.Defaults as Defaults
 use Rattle.definition.specs.Starting.{applied, array_of, implicit, default_of, spec_default}
 use Rattle.laws.specs.Asks.{OnOk}
@@ -30,10 +28,10 @@ use Rattle.places.specs.Inside.{PlaceIn}
 use Rattle.places.proofs.field.Laws.{linked-type}
 use Rattle.build.specs.declared.built.Built.{Built}
 use Rattle.build.specs.declared.built.Built.TheVariants.{Ends, None}
-use Rattle.build.specs.Built.{Gives, Memory, Builds, Ready}
+use Rattle.build.specs.Built.{Memory, Builds, Ready}
 use Rattle.build.specs.Parts.{implicit_levels, start_levels}
-use Rattle.build.proofs.Peeks.{then_peek, peek-then, NoEnd, gives-fails, EndsAt, gives-ends}
-use Rattle.build.proofs.Levels.{levels-implicit, levels-typed, levels-some}
+use Rattle.build.proofs.Peeks.{then_peek, peek-then, NoEnd, gives-fails, gives-ends}
+use Rattle.build.proofs.Levels.{levels-some}
 use Rattle.build.proofs.Smalls.{peek-to, default-small}
 use Rattle.initial.specs.declared.values.Stated.{Stated}
 use Rattle.initial.specs.declared.values.Stated.TheVariants as what

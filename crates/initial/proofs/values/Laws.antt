@@ -1,7 +1,7 @@
 -- A law for each return of values.rt. Assumes nothing.
 use mathlib.Core.Path.{◌≡◌, refl, ap, sym, ◌∙◌}
 use mathlib.Core.List.{List}
-use Prim.Native.Nat.{ℕ, ◌+◌, ◌≤◌, ◌<◌}
+use Prim.Native.Nat.{ℕ, ◌<◌}
 use lib.Dec.{eqb}
 use borrow.Author.Rules.{rules}
 use borrow.Author.Tests.{ne_eqb, eq-eqb}
@@ -10,9 +10,9 @@ use Rattle.definition.specs.declared.records.Place.{Place}
 use Rattle.definition.specs.Base.{pick}
 use Rattle.definition.specs.Layout.{word, count, entries, expressions, constants}
 use Rattle.definition.specs.Records.{constant_at}
-use Rattle.definition.specs.Tree.{Tree, flatten, constant_tree, null_tree, reference_tree}
-use Rattle.definition.specs.Ask.{Result, ok, none, Outcome, Ask, done, give}
-use Rattle.definition.specs.Peek.{Peek, got, peek}
+use Rattle.definition.specs.Tree.{flatten, constant_tree, null_tree, reference_tree}
+use Rattle.definition.specs.Ask.{ok, Outcome, Ask, done, give}
+use Rattle.definition.specs.Peek.{got}
 use Rattle.definition.specs.Scalar.{as_tree, constant_value, enumerated_value}
 use Rattle.definition.specs.Parts.{enumerated_as, reference_as}
 use Rattle.definition.specs.Defaults as Defaults
@@ -20,7 +20,7 @@ use Rattle.definition.specs.Starting.{constant_as}
 use Rattle.laws.specs.Steps.{peek-done, peek-give, peek-nothing}
 use Rattle.places.specs.Inside.{ShapeIn, PlaceIn}
 use Rattle.build.specs.declared.built.Built.{Built}
-use Rattle.build.specs.Built.{Gives, Puts}
+use Rattle.build.specs.Built.{Puts}
 use Rattle.build.specs.declared.built.Built.TheVariants.{None}
 use Rattle.initial.specs.declared.values.Stated.{Stated}
 use Rattle.initial.specs.declared.values.Stated.TheVariants as stated

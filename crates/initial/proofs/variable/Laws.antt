@@ -1,5 +1,5 @@
 -- A law for each return of variable.rt, and what its calls require. Assumes nothing.
-use mathlib.Core.Path.{◌≡◌, refl, ap, sym, subst, ◌∙◌}
+use mathlib.Core.Path.{◌≡◌, ap, ◌∙◌}
 use mathlib.Core.Bool.{Bool, true, false, ◌||◌}
 use mathlib.Core.List.{List}
 use Prim.Native.Nat.{ℕ, ◌+◌, ◌*◌, ◌≤◌, ◌<◌}
@@ -7,10 +7,9 @@ use lib.Dec.{eqb}
 use borrow.Author.Rules.{rules}
 use borrow.Author.Tests.{ne_eqb, eq-eqb}
 use Rattle.definition.specs.declared.records.Place.{Place}
-use Rattle.definition.specs.Base.{choose}
 use Rattle.definition.specs.Layout.{word, count, variables, initializers}
 use Rattle.definition.specs.Tree.{flatten}
-use Rattle.definition.specs.Ask.{Result, ok, none, Outcome, Ask, done, nothing, ◌>>=◌}
+use Rattle.definition.specs.Ask.{done, ◌>>=◌}
 use Rattle.definition.specs.Places.{variable_place}
 use Rattle.definition.specs.Defaults as Defaults
 use Rattle.definition.specs.Starting.{initializer, declaration}
@@ -23,7 +22,7 @@ use Rattle.build.specs.declared.built.Built.{Built}
 use Rattle.build.specs.declared.built.Built.TheVariants.{None}
 use Rattle.build.specs.Built.{Builds}
 use Rattle.initial.specs.Stated.{variable_start}
-use Rattle.initial.specs.Rooms.{found_levels, init_levels, variable_levels}
+use Rattle.initial.specs.Rooms.{init_levels, variable_levels}
 use Rattle.initial.proofs.Alike.{same, no_value_lem, at-found, at_none}
 
 -- ---- `is_outside`

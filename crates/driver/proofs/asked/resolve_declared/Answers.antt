@@ -1,5 +1,4 @@
 -- `asked::resolve_declared` meets its contract. Assumes nothing.
-use Prim.Native.Nat.{◌-◌}
 use Rattle.driver.proofs.Asking.{declaring-held, declaring-done, declaring-next, declaring-full, declares}
 use Rattle.driver.proofs.Tabling.{front-then}
 use native.Mathlib.Omega.{arith}

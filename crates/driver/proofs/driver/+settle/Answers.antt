@@ -4,7 +4,6 @@ use native.Mathlib.Omega.{arith}
 use borrow.Author.Rules.{rules}
 use Rattle.driver.proofs.Tabling.{front_same, front-then}
 use Rattle.driver.proofs.Settling.{given-kept, to-ready, resolves-fresh, begin-less, begin-word, goes-start, goes-line, goes-fresh, goes-full, goes-next}
-use borrow.Fn.PlainCycle.{is}
 use Rattle.driver.proofs.driver.+settle.Goals as goal
 
 pub loop-d-init : goal.loop-d-init

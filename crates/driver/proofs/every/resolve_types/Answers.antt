@@ -1,5 +1,4 @@
 -- `every::resolve_types` meets its contract. Assumes nothing.
-use Prim.Native.Nat.{◌-◌}
 use Rattle.driver.proofs.Types.{resolving-held, resolving-done, resolving-next, resolving-full, resolves}
 use Rattle.driver.proofs.Tabling.{front-then}
 use native.Mathlib.Omega.{arith}

@@ -3,7 +3,6 @@ use borrow.Author.Rules.{rules}
 use Rattle.driver.proofs.Tabling.{front_same}
 use Rattle.driver.proofs.Settling.{given-kept, to-ready, again-less}
 use Rattle.driver.proofs.Telling.{ample-kept, tells-done, asked-fresh, then-held, tells-again, tells-never}
-use borrow.Fn.PlainCycle.{is}
 use Rattle.driver.proofs.told.+tell_variable.Goals as goal
 
 pub variable-built-requires : goal.variable-built-requires

@@ -1,5 +1,4 @@
 -- `types::types_right` meets its contract. Assumes nothing.
-use Prim.Native.Nat.{◌-◌}
 use Rattle.sheet.proofs.Looping.{typing}
 use Rattle.sheet.proofs.types.types_right.Goals as goal
 

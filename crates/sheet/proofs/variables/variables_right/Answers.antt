@@ -1,5 +1,4 @@
 -- `variables::variables_right` meets its contract. Assumes nothing.
-use Prim.Native.Nat.{◌-◌}
 use Rattle.sheet.proofs.Looping.{pairing-on, pairing}
 use Rattle.sheet.proofs.variables.variables_right.Goals as goal
 

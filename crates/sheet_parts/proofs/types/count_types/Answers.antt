@@ -1,5 +1,4 @@
 -- `types::count_types` meets its contract. Assumes nothing.
-use Prim.Native.Nat.{◌-◌}
 use Rattle.sheet_parts.proofs.Sections.{counting}
 use Rattle.sheet_parts.proofs.types.count_types.Goals as goal
 

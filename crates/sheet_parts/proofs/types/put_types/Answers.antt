@@ -1,5 +1,4 @@
 -- `types::put_types` meets its contract. Assumes nothing.
-use Prim.Native.Nat.{◌-◌}
 use native.Mathlib.Omega.{arith}
 use borrow.Author.Rules.{rules}
 use Rattle.sheet_parts.proofs.Sections.{writing, type-next}

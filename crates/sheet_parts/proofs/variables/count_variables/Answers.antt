@@ -1,5 +1,4 @@
 -- `variables::count_variables` meets its contract. Assumes nothing.
-use Prim.Native.Nat.{◌-◌}
 use Rattle.sheet_parts.proofs.Beside.{counting}
 use Rattle.sheet_parts.proofs.variables.count_variables.Goals as goal
 

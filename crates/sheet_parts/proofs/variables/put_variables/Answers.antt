@@ -1,5 +1,4 @@
 -- `variables::put_variables` meets its contract. Assumes nothing.
-use Prim.Native.Nat.{◌-◌}
 use Rattle.sheet_parts.proofs.Beside.{both}
 use Rattle.sheet_parts.proofs.variables.put_variables.Goals as goal
 

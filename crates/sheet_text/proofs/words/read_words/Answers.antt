@@ -1,5 +1,4 @@
 -- `words::read_words` meets its contract. Assumes nothing.
-use Prim.Native.Nat.{◌-◌}
 use Rattle.sheet_text.proofs.Reading.{fills}
 use Rattle.sheet_text.proofs.words.read_words.Goals as goal
 
