@@ -51,6 +51,7 @@ fn refused(file: &[u32], shape: u32, constant: u32) -> u32
 }
 
 // Writes a constant's node where there is room.
+#[tactic(auto, using(crate::proofs::convert::Laws::conversions))]
 fn put(c: Constant, out: &mut [u32]) -> TreeAnswer
     ensures says { tree_says result ≡ tree_answer (ok (constant_tree c)) (length out.old) }
     ensures wrote { out.new ≡ over (flatten (constant_tree c)) out.old }

@@ -7,6 +7,7 @@ ghost use Rattle.reals.specs.Fields.{Fields, single};
 use crate::is_nan;
 
 // The digits above the `below` + 1 lowest, rounded by the highest digit dropped and by whether any digit below that is set.
+#[tactic(auto, using(crate::proofs::narrow::Nearest::laws))]
 fn rounded(size: u64, below: u64) -> u64
     requires { size < 2 ^ 53 }
     ensures { result ≡ closest size (2 ^ (below + 1)) }

@@ -4,9 +4,6 @@ use lib.ListN.{length-set}
 use Rattle.conversion.proofs.convert.Laws.{conversions}
 use Rattle.conversion.proofs.convert.put.Goals as goal
 
-pub returns-then-out-lt-NODE_WORDS : goal.returns-then-out-lt-NODE_WORDS
-returns-then-out-lt-NODE_WORDS c = search conversions
-
 pub bounds-out-1 : goal.bounds-out-1
 bounds-out-1 c = simp length-set (omega arith)
 

@@ -2,9 +2,6 @@
 use Rattle.reals.proofs.narrow.Nearest.{laws}
 use Rattle.reals.proofs.narrow.rounded.Goals as goal
 
-pub returns-then-below-gt52 : goal.returns-then-below-gt52
-returns-then-below-gt52 c = search laws
-
 pub overflow_add-kept : goal.overflow_add-kept
 overflow_add-kept c = search laws
 
