@@ -21,7 +21,7 @@ use Rattle.acceptance.specs.declared.depths.Run.{Run}
 use Rattle.acceptance.specs.declared.depths.Run.TheVariants.{Records, Fields}
 use Rattle.records.specs.Tables.{table_of, Filled, table-length, table_at}
 use Rattle.acceptance.specs.Nesting.{depth_in, Shallow, depth_at, count_of, depth_of, depth_from}
-use Rattle.records.proofs.Filling.{filled-part, filled-again}
+use Rattle.records.proofs.Filling.{filled-part, zeroed-again}
 use Rattle.records.proofs.Listed.{in-run, past}
 use Rattle.records.proofs.Links.{no-link, a-link}
 
@@ -194,4 +194,4 @@ still-zero e h = rw e h
 pub ruleset nests =
     (rules, by-records, by-fields, none-met, one-met, all-met, no_inner, an-inner, entry-array, entry-structure, entry-repeat, entry_other, shape-structure, shape-array, shape-other, count_entries, count-shapes, depth-entry, depth-shape)
 
-pub ruleset leveling = (rules, greatest-is, filled-again, levels-are, still-room, still-zero)
+pub ruleset leveling = (rules, greatest-is, zeroed-again, levels-are, still-room, still-zero)

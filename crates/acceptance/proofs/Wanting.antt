@@ -1,21 +1,19 @@
 -- Work words: the products, and the answer where the file is accepted or not. Assumes nothing.
-use mathlib.Core.Path.{◌≡◌, refl, sym, ap, ◌∙◌}
-use mathlib.Core.Bool.{Bool, true, false}
-use mathlib.Core.List.{List, [], ◌∷◌}
-use Prim.Native.Nat.{ℕ, ◌*◌}
+use mathlib.Core.Path.{◌≡◌}
+use mathlib.Core.Bool.{false}
+use mathlib.Core.List.{List}
+use Prim.Native.Nat.{ℕ, ◌*◌, ◌≤◌}
 use native.Mathlib.Omega.{arith}
 use lib.Dec.{eqb}
 use borrow.Author.Rules.{rules}
-use borrow.Author.Tests.{eqb-true, eq-eqb}
-use Rattle.definition.specs.declared.answers.Acceptance.{Acceptance}
-use Rattle.definition.specs.declared.answers.Acceptance.TheVariants as acceptance
-use Rattle.definition.specs.declared.answers.WorkWords.TheVariants as work_words
-use Rattle.definition.specs.Base.{choose}
+use borrow.Author.Tests.{eq-eqb, ne_eqb}
+use Rattle.std.specs.Prelude.{Ok, Err}
+use Rattle.definition.specs.declared.answers.Refusal.{Refusal}
+use Rattle.definition.specs.declared.answers.Refusal.TheVariants as refusal
 use Rattle.definition.specs.Layout.{count, types}
 use Rattle.definition.specs.Accept.{verdict}
 use Rattle.definition.specs.Depth.{levels}
-use Rattle.definition.specs.Answers.{refuses, says, acceptance_says, accept_answer, after_file, line_words, room_words, words_say, words_answer}
-use Rattle.laws.specs.Accepted.{Accepted, accepted}
+use Rattle.definition.specs.Answers.{number_of, after_file, line_words, room_words, words_say, words_answer}
 
 -- ---- the products
 module _ (f : List ℕ) where
@@ -28,47 +26,46 @@ module _ (f : List ℕ) where
   room-is e = rw e
 
 -- ---- the answers
-module _ (f : List ℕ) {r : Acceptance} (e : acceptance_says r ≡ accept_answer f) where
-  pub verdict-none : r ≡ acceptance.Accepted → verdict f ≡ 0
-  unfolding acceptance_says accept_answer
-  verdict-none q = go (eqb (verdict f) 0) refl (ap acceptance_says (sym q) ∙ e)
-    where
-      go : (b : Bool) → eqb (verdict f) 0 ≡ b → says 0 [] ≡ choose b (λ u. says 0 []) (λ u. refuses (verdict f)) → verdict f ≡ 0
-      go true p h = eqb-true (verdict f) 0 p
-      go false p h = let z : ◌≡◌ {A = ℕ} 0 1 = cc in absurd (omega arith)
+pub at-least-one : (r : Refusal) → 1 ≤ number_of r
+unfolding number_of
+at-least-one refusal.Ends = omega arith
+at-least-one refusal.Counts = omega arith
+at-least-one refusal.Words = omega arith
+at-least-one refusal.Points = omega arith
+at-least-one refusal.Alike = omega arith
+at-least-one refusal.Elements = omega arith
+at-least-one refusal.Missing = omega arith
+at-least-one refusal.Large = omega arith
+at-least-one refusal.Circle = omega arith
+at-least-one refusal.Short = omega arith
+at-least-one refusal.Sections = omega arith
+at-least-one refusal.Ranks = omega arith
+at-least-one refusal.Lines = omega arith
+at-least-one refusal.NotHeld = omega arith
+at-least-one refusal.Wide = omega arith
 
-  pub accepted-so : r ≡ acceptance.Accepted → Accepted f
-  accepted-so q = accepted f (verdict-none q)
+none-else : (f : List ℕ) (r : Refusal) → number_of r ≡ verdict f → eqb (verdict f) 0 ≡ false
+none-else f r e = ne_eqb (verdict f) 0 (λ z. absurd (omega (arith, at-least-one r)))
 
+module _ (f : List ℕ) where
   -- what a function refuses after the file's own refusals
   module _ (next : Unit {0} → ℕ) where
-    pub file-passes : r ≡ acceptance.Accepted → after_file f next ≡ next tt
-    file-passes q = rw (eq-eqb (verdict f) 0 (verdict-none q))
+    pub file-passes : verdict f ≡ 0 → after_file f next ≡ next tt
+    file-passes e = rw (eq-eqb (verdict f) 0 e)
 
-    pub file-refuses : {n : ℕ} → r ≡ acceptance.Refused n → n ≡ after_file f next
-    unfolding acceptance_says accept_answer
-    file-refuses {n} q = go (eqb (verdict f) 0) (ap acceptance_says (sym q) ∙ e)
-      where
-        go : (b : Bool) → refuses n ≡ choose b (λ u. says 0 []) (λ u. refuses (verdict f)) → n ≡ choose b next (λ u. verdict f)
-        go true h = let z : ◌≡◌ {A = ℕ} 0 1 = cc in absurd (omega arith)
-        go false h = cc
+    pub file-refuses : (r : Refusal) → number_of r ≡ verdict f → number_of r ≡ after_file f next
+    file-refuses r e = rw (none-else f r e) e
 
-  pub words_are : r ≡ acceptance.Accepted → {w n : ℕ} → w ≡ n → words_say (work_words.Words w) ≡ words_answer f n
-  unfolding acceptance_says accept_answer words_say words_answer
-  words_are q {w} {n} s = go (eqb (verdict f) 0) (ap acceptance_says (sym q) ∙ e)
-    where
-      go : (b : Bool) → says 0 [] ≡ choose b (λ u. says 0 []) (λ u. refuses (verdict f))
-          → says 0 (w ∷ []) ≡ choose b (λ u. says 0 (n ∷ [])) (λ u. refuses (verdict f))
-      go true h = ap (λ k. says 0 (k ∷ [])) s
-      go false h = let z : ◌≡◌ {A = ℕ} 0 1 = cc in absurd (omega arith)
+  pub lines-said : {g : List ℕ} → g ≡ f → verdict f ≡ 0 → {w : ℕ} → w ≡ line_words g → words_say (Ok w) ≡ words_answer f (line_words f)
+  unfolding words_say words_answer
+  lines-said q e h = rw (eq-eqb (verdict f) 0 e, h, q)
 
-  pub refused-are : {k : ℕ} → r ≡ acceptance.Refused k → (n : ℕ) → words_say (work_words.Refused k) ≡ words_answer f n
-  unfolding acceptance_says accept_answer words_say words_answer
-  refused-are {k} q n = go (eqb (verdict f) 0) (ap acceptance_says (sym q) ∙ e)
-    where
-      go : (b : Bool) → refuses k ≡ choose b (λ u. says 0 []) (λ u. refuses (verdict f))
-          → refuses k ≡ choose b (λ u. says 0 (n ∷ [])) (λ u. refuses (verdict f))
-      go true h = let z : ◌≡◌ {A = ℕ} 0 1 = cc in absurd (omega arith)
-      go false h = h
+  pub room-said : {g : List ℕ} → g ≡ f → verdict f ≡ 0 → {w : ℕ} → w ≡ room_words g → words_say (Ok w) ≡ words_answer f (room_words f)
+  unfolding words_say words_answer
+  room-said q e h = rw (eq-eqb (verdict f) 0 e, h, q)
 
-pub ruleset wanting = (rules, lines_are, room-is, accepted-so, words_are, refused-are)
+  pub refusal-said : (r : Refusal) → number_of r ≡ verdict f → (n : ℕ) → words_say (Err r) ≡ words_answer f n
+  unfolding words_say words_answer
+  refusal-said r e n = rw (none-else f r e, e)
+
+pub ruleset wanting = (rules, lines_are, room-is, lines-said, room-said, refusal-said)

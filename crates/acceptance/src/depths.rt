@@ -1,16 +1,18 @@
 // How deep entries and shapes nest. The depths of lower records stand in a table, and a record's own is found from them.
-ghost use Rattle.std.specs.Prelude.{◌≡◌, suc, ◌+◌, ◌≤◌, max, length, replicate};
+#![tactic(auto, using(crate::proofs::Nests::nests))]
+
+ghost use Rattle.std.specs.Prelude.{◌≡◌, suc, ◌+◌, ◌≤◌, length, replicate};
 ghost use Rattle.definition.specs.Base.{on_link};
 ghost use Rattle.definition.specs.Layout as Layout;
 ghost use Rattle.definition.specs.Records.{shape_at, entry_at};
 ghost use Rattle.definition.specs.Depth as Depth;
-ghost use Rattle.laws.specs.Accepted.{Accepted};
-ghost use Rattle.records.specs.Starts.{StartsOf};
 ghost use Rattle.records.specs.Tables.{Filled};
 ghost use Rattle.acceptance.specs.Nesting.{depth_in, Shallow, depth_at, count_of, depth_of, depth_from};
 
 use definition::layout::{ENTRIES, SHAPE_FIELDS, SHAPES};
-use records::words::{count, run_word, word, word_at};
+use records::file::File;
+use records::source::Source;
+use records::words::word_at;
 
 // What nests.
 #[derive(Clone, Copy)]
@@ -27,45 +29,34 @@ pub enum Run {
 }
 
 // The depth that record `first + j` leads to.
-fn depth_at(file: &[u32], source: &[usize], run: Run, depths: &[u32], first: u32, j: u32) -> u32
-    requires { StartsOf file.now source.now }
+fn depth_at(file: &Source<'_>, run: Run, depths: &[u32], first: u32, j: u32) -> u32
     ensures { result ≡ depth_at file.now run depths.now (first + j) }
 {
     match run {
         Run::Records => word_at(depths, (first as usize) + (j as usize)),
         Run::Fields => {
-            let shape = run_word(file, source, SHAPE_FIELDS, first, j, 1);
+            let shape = file.run_word(SHAPE_FIELDS, first, j, 1);
             word_at(depths, shape as usize)
         }
     }
 }
 
-fn greater(a: u32, b: u32) -> u32
-    ensures { result ≡ max a b }
-{
-    if a < b {
-        return b;
-    }
-    a
-}
-
 // The greatest depth that a run leads to, 0 where it is empty.
-fn deepest(file: &[u32], source: &[usize], run: Run, depths: &[u32], first: u32, many: u32) -> u32
-    requires { StartsOf file.now source.now }
+fn deepest(file: &Source<'_>, run: Run, depths: &[u32], first: u32, many: u32) -> u32
     ensures { result ≡ Depth.deepest (depth_at file.now run depths.now) first many }
 {
     let mut most: u32 = 0;
     for j in 0..many {
-        most = greater(most, depth_at(file, source, run, depths, first, j));
+        most = most.max(depth_at(file, run, depths, first, j));
     }
     most
 }
 
-fn over_run(file: &[u32], source: &[usize], run: Run, depths: &[u32], first: u32, many: u32) -> u32
-    requires { StartsOf file.now source.now × Shallow depths.now }
+fn over_run(file: &Source<'_>, run: Run, depths: &[u32], first: u32, many: u32) -> u32
+    requires { Shallow depths.now }
     ensures { result ≡ suc (Depth.deepest (depth_at file.now run depths.now) first many) }
 {
-    deepest(file, source, run, depths, first, many) + 1
+    deepest(file, run, depths, first, many) + 1
 }
 
 fn over_one(depths: &[u32], n: u32) -> u32
@@ -85,97 +76,90 @@ fn over_link(depths: &[u32], link: u32) -> u32
     over_one(depths, link - 1)
 }
 
-fn entry_depth(file: &[u32], source: &[usize], depths: &[u32], e: u32) -> u32
-    requires { StartsOf file.now source.now × Shallow depths.now }
+fn entry_depth(file: &Source<'_>, depths: &[u32], e: u32) -> u32
+    requires { Shallow depths.now }
     ensures { result ≡ Depth.entry_depth_from (depth_in depths.now) (entry_at file.now e) }
 {
-    let kind = word(file, source, ENTRIES, e, 0);
-    let a = word(file, source, ENTRIES, e, 2);
-    let b = word(file, source, ENTRIES, e, 3);
+    let kind = file.word(ENTRIES, e, 0);
+    let a = file.word(ENTRIES, e, 2);
+    let b = file.word(ENTRIES, e, 3);
     match kind {
-        2 => over_run(file, source, Run::Records, depths, a, b),
-        3 => over_run(file, source, Run::Records, depths, a, b),
+        2 => over_run(file, Run::Records, depths, a, b),
+        3 => over_run(file, Run::Records, depths, a, b),
         6 => over_link(depths, b),
         _ => 1,
     }
 }
 
-fn shape_depth(file: &[u32], source: &[usize], depths: &[u32], n: u32) -> u32
-    requires { StartsOf file.now source.now × Shallow depths.now }
+fn shape_depth(file: &Source<'_>, depths: &[u32], n: u32) -> u32
+    requires { Shallow depths.now }
     ensures { result ≡ Depth.shape_depth_from file.now (depth_in depths.now) (shape_at file.now n) }
 {
-    let kind = word(file, source, SHAPES, n, 0);
-    let a = word(file, source, SHAPES, n, 1);
-    let b = word(file, source, SHAPES, n, 2);
+    let kind = file.word(SHAPES, n, 0);
+    let a = file.word(SHAPES, n, 1);
+    let b = file.word(SHAPES, n, 2);
     match kind {
-        11 => over_run(file, source, Run::Fields, depths, a, b),
+        11 => over_run(file, Run::Fields, depths, a, b),
         12 => over_one(depths, a),
         _ => 1,
     }
 }
 
-fn depth_of(file: &[u32], source: &[usize], nesting: Nesting, depths: &[u32], n: u32) -> u32
-    requires { StartsOf file.now source.now × Shallow depths.now }
+fn depth_of(file: &Source<'_>, nesting: Nesting, depths: &[u32], n: u32) -> u32
+    requires { Shallow depths.now }
     ensures { result ≡ depth_from file.now nesting (depth_in depths.now) n }
 {
     match nesting {
-        Nesting::Entries => entry_depth(file, source, depths, n),
-        Nesting::Shapes => shape_depth(file, source, depths, n),
+        Nesting::Entries => entry_depth(file, depths, n),
+        Nesting::Shapes => shape_depth(file, depths, n),
     }
 }
 
-fn count_of(file: &[u32], source: &[usize], nesting: Nesting) -> u32
-    requires { StartsOf file.now source.now }
+fn count_of(file: &Source<'_>, nesting: Nesting) -> u32
     ensures { result ≡ count_of file.now nesting }
 {
     match nesting {
-        Nesting::Entries => count(file, source, ENTRIES),
-        Nesting::Shapes => count(file, source, SHAPES),
+        Nesting::Entries => file.count(ENTRIES),
+        Nesting::Shapes => file.count(SHAPES),
     }
 }
 
 // Every depth, from those before it: records point only lower.
-fn fill(file: &[u32], source: &[usize], nesting: Nesting, many: u32, words: &mut [u32])
-    requires { StartsOf file.now source.now × Accepted file.now × (many ≡ count_of file.now nesting) × (many ≤ length words.old) }
-    ensures { Filled (depth_of file.now nesting) many words.old words.new }
+#[tactic(auto, using(records::proofs::Filling::filling))]
+fn fill(file: &File<'_>, nesting: Nesting, many: u32, words: &mut [u32])
+    requires { (many ≡ count_of file.now.source nesting) × (many ≤ length words.old) }
+    ensures { Filled (depth_of file.now.source nesting) many words.old words.new }
 {
     for n in 0..many {
         let at = n as usize;
-        let depth = depth_of(file, source, nesting, &words[..at], n);
+        let depth = depth_of(&file.source, nesting, &words[..at], n);
         words[at] = depth;
     }
 }
 
-fn clear(words: &mut [u32], many: u32)
-    requires { many ≤ length words.old }
-    ensures { Filled (λ n. 0) many words.old words.new }
-{
-    for n in 0..many {
-        words[n as usize] = 0;
-    }
-}
-
 // The greatest depth of all entries, or of all shapes.
-fn greatest(file: &[u32], source: &[usize], nesting: Nesting, words: &mut [u32]) -> u32
-    requires { StartsOf file.now source.now × Accepted file.now × (count_of file.now nesting ≤ length words.old) × (words.old ≡ replicate (length words.old) 0) }
-    ensures is { result ≡ Depth.deepest (depth_of file.now nesting) 0 (count_of file.now nesting) }
+#[tactic(auto, using(crate::proofs::Nests::leveling))]
+fn greatest(file: &File<'_>, nesting: Nesting, words: &mut [u32]) -> u32
+    requires { (count_of file.now.source nesting ≤ length words.old) × (words.old ≡ replicate (length words.old) 0) }
+    ensures is { result ≡ Depth.deepest (depth_of file.now.source nesting) 0 (count_of file.now.source nesting) }
     ensures cleared { words.new ≡ words.old }
 {
-    let many = count_of(file, source, nesting);
-    fill(file, source, nesting, many, words);
+    let many = count_of(&file.source, nesting);
+    fill(file, nesting, many, words);
     let end = many as usize;
-    let most = deepest(file, source, Run::Records, &words[..end], 0, many);
-    clear(words, many);
+    let most = deepest(&file.source, Run::Records, &words[..end], 0, many);
+    words[..end].fill(0);
     most
 }
 
 // How many trees can be under construction at once. The words hold the depths of entries, then those of shapes, and end as they were.
-pub fn levels(file: &[u32], source: &[usize], words: &mut [u32]) -> u32
-    requires { StartsOf file.now source.now × Accepted file.now × (Layout.count file.now Layout.entries ≤ length words.old) × (Layout.count file.now Layout.shapes ≤ length words.old) × (words.old ≡ replicate (length words.old) 0) }
-    ensures is { result ≡ Depth.levels file.now }
+#[tactic(auto, using(crate::proofs::Nests::leveling), unfolding(crate::specs::Nesting::count_of))]
+pub fn levels(file: &File<'_>, words: &mut [u32]) -> u32
+    requires { (Layout.count file.now.source Layout.entries ≤ length words.old) × (Layout.count file.now.source Layout.shapes ≤ length words.old) × (words.old ≡ replicate (length words.old) 0) }
+    ensures is { result ≡ Depth.levels file.now.source }
     ensures cleared { words.new ≡ words.old }
 {
-    let entries = greatest(file, source, Nesting::Entries, words);
-    let shapes = greatest(file, source, Nesting::Shapes, words);
+    let entries = greatest(file, Nesting::Entries, words);
+    let shapes = greatest(file, Nesting::Shapes, words);
     entries + shapes + 1
 }

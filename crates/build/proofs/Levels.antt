@@ -21,11 +21,10 @@ use Rattle.laws.specs.Pointed.{run_at, named-of}
 use Rattle.laws.specs.Depths.{deepest-at, deepest-most, shape-depth-is}
 use Rattle.places.specs.Inside.{ShapeIn, PlaceIn, element-shape, structure-fields}
 use Rattle.places.specs.Shapes.{on-kind}
-use Rattle.places.specs.Found.{place_in}
-use Rattle.places.specs.declared.field.Found.{Found}
-use Rattle.places.specs.declared.field.Found.TheVariants as found
+use Rattle.definition.specs.Ask.{result_of}
 use Rattle.definition.specs.Tree.{tree_words}
 use Rattle.build.specs.Parts.{place_depth, implicit_levels, start_levels}
+use Rattle.std.specs.Prelude.{Option, Some}
 
 -- ---- the levels of a place
 pub levels-implicit : (f : List ℕ) (place : Place) → place.id ≡ 0 → start_levels f place ≡ implicit_levels f place
@@ -110,10 +109,10 @@ module _ (f : List ℕ) (a : Accepted f) where
       (λ n e. tt) tt
 
   -- the place that `field_place` finds
-  pub field-levels : (place : Place) (name : ℕ) → PlaceIn f place → {r : Found} → place_in r ≡ field_place f place name → {p : Place} → r ≡ found.Place p
+  pub field-levels : (place : Place) (name : ℕ) → PlaceIn f place → {r : Option Place} → result_of r ≡ field_place f place name → {p : Place} → r ≡ Some p
       → suc (start_levels f p) ≤ implicit_levels f place
   field-levels place name i {r} h {p} e =
-      let o : OnOk (λ p. suc (start_levels f p) ≤ implicit_levels f place) (place_in r) = rw h (inside-levels place name i) in rw e at o
+      let o : OnOk (λ p. suc (start_levels f p) ≤ implicit_levels f place) (result_of r) = rw h (inside-levels place name i) in rw e at o
 
   -- ---- the work words have room for every place of the file
   shape-under : (s : ℕ) → s < count f shapes → shape_depth f s ≤ deepest (shape_depth f) 0 (count f shapes)

@@ -5,7 +5,6 @@ use Rattle.definition.specs.Ask.{Result, ok, none, large, Ask}
 use Rattle.definition.specs.Resolve.{Memo}
 use Rattle.definition.specs.Peek.{Peek, got, wants, peek}
 use Rattle.laws.specs.Accepted.{Accepted}
-use Rattle.records.specs.Starts.{StartsOf, DeclaredIn}
 use Rattle.shapes.specs.Classes.{Classes}
 use Rattle.tree.specs.Words.{Stand}
 use Rattle.lines.specs.Memory.{Remembers}
@@ -51,9 +50,7 @@ pub record Builds {A : Type 0} (f known store : List ℕ) (words : A → List �
   pub kept : take at new ≡ take at old
 
 -- what the arguments that every building function hands on have to be
-pub record Ready (f source known store : List ℕ) : Type 0 where
-  pub starts : StartsOf f source
-  pub declared : DeclaredIn f source
+pub record Ready (f known store : List ℕ) : Type 0 where
   pub accepted : Accepted f
   pub classed : Classes f known
   pub tables : index_at ≤ length known

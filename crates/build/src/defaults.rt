@@ -1,4 +1,6 @@
 // What a place starts with by itself (`default_of`, `implicit`, `element_defaults`), formed at `at` of the room. What lies behind the answer is scratch.
+#![tactic(auto, using(crate::proofs::defaults::Laws::laws))]
+
 ghost use Rattle.std.specs.Prelude.{◌≡◌, ◌+◌, ◌*◌, ◌^◌, ◌≤◌, ◌<◌, length};
 ghost use Rattle.definition.specs.declared.records.Shape.TheVariants as shape;
 ghost use Rattle.definition.specs.Starting as Defaults;
@@ -17,51 +19,48 @@ use crate::remembered::type_default;
 use crate::spread::spread;
 use definition::layout::{BLOCK_FIELDS, NODE_WORDS, SHAPE_FIELDS};
 use definition::records::{Place, Shape};
-use places::block::{Block, block_run};
-use places::field::{Found, field_place};
+use places::block::block_run;
+use places::field::field_place;
 use places::place::element_place;
-use records::words::word;
+use records::file::File;
 
 // A place starts at its type's default, or at the implicit default of its shape.
 #[cycle(defaults_of_places)]
 pub fn default_of(
-    file: &[u32],
-    source: &[usize],
+    file: &File<'_>,
     known: &[u32],
     store: &[u32],
     place: Place,
     room: &mut [u32],
     at: usize,
 ) -> Built
-    requires { Ready file.now source.now known.now store.now × PlaceIn file.now place × (at + start_levels file.now place * tree_words ≤ length room.old) }
-    ensures { Builds file.now known.now store.now flatten (default_of file.now place) at room.old result room.new }
+    requires { Ready file.now.source known.now store.now × PlaceIn file.now.source place × (at + start_levels file.now.source place * tree_words ≤ length room.old) }
+    ensures { Builds file.now.source known.now store.now flatten (default_of file.now.source place) at room.old result room.new }
 {
     let id = place.id;
     if id == 0 {
-        return implicit(file, source, known, store, place, room, at);
+        return implicit(file, known, store, place, room, at);
     }
-    type_default(file, known, store, id - 1, room, at)
+    type_default(&file.source, known, store, id - 1, room, at)
 }
 
 // The default of a place that nothing declares one for.
 #[cycle(defaults_of_places)]
 pub fn implicit(
-    file: &[u32],
-    source: &[usize],
+    file: &File<'_>,
     known: &[u32],
     store: &[u32],
     place: Place,
     room: &mut [u32],
     at: usize,
 ) -> Built
-    requires { Ready file.now source.now known.now store.now × PlaceIn file.now place × (at + implicit_levels file.now place * tree_words ≤ length room.old) }
-    ensures { Builds file.now known.now store.now flatten (Defaults.implicit file.now place) at room.old result room.new }
+    requires { Ready file.now.source known.now store.now × PlaceIn file.now.source place × (at + implicit_levels file.now.source place * tree_words ≤ length room.old) }
+    ensures { Builds file.now.source known.now store.now flatten (Defaults.implicit file.now.source place) at room.old result room.new }
 {
     let shape = place.shape;
     match shape {
         Shape::Structure { first, count } => fields(
             file,
-            source,
             known,
             store,
             place,
@@ -75,33 +74,29 @@ pub fn implicit(
             element,
             first,
             count,
-        } => element_defaults(
-            file, source, known, store, place, element, first, count, room, at,
-        ),
-        Shape::FunctionBlock { name: _ } => match block_run(file, source, place) {
-            Block::Fields { first, count } => fields(
+        } => element_defaults(file, known, store, place, element, first, count, room, at),
+        Shape::FunctionBlock { name: _ } => match block_run(&file.source, place) {
+            Some(run) => fields(
                 file,
-                source,
                 known,
                 store,
                 place,
                 BLOCK_FIELDS,
-                first,
-                count,
+                run.first,
+                run.count,
                 room,
                 at,
             ),
-            Block::None => Built::None,
+            None => Built::None,
         },
-        _ => implicit_leaf(file, source, shape, room, at),
+        _ => implicit_leaf(&file.source, shape, room, at),
     }
 }
 
 // One field at `to`, under the head at `at`.
 #[cycle(defaults_of_places)]
 fn field_default(
-    file: &[u32],
-    source: &[usize],
+    file: &File<'_>,
     known: &[u32],
     store: &[u32],
     place: Place,
@@ -110,26 +105,25 @@ fn field_default(
     at: usize,
     to: usize,
 ) -> Built
-    requires { Ready file.now source.now known.now store.now × PlaceIn file.now place × (at ≤ to) × (to ≤ at + tree_words) × (at + implicit_levels file.now place * tree_words ≤ length room.old) }
-    ensures { BuildsField file.now known.now store.now place name at to room.old result room.new }
+    requires { Ready file.now.source known.now store.now × PlaceIn file.now.source place × (at ≤ to) × (to ≤ at + tree_words) × (at + implicit_levels file.now.source place * tree_words ≤ length room.old) }
+    ensures { BuildsField file.now.source known.now store.now place name at to room.old result room.new }
 {
-    match field_place(file, source, known, place, name) {
-        Found::Place(inner) => {
-            let r = default_of(file, source, known, store, inner, room, to);
+    match field_place(file, known, place, name) {
+        Some(inner) => {
+            let r = default_of(file, known, store, inner, room, to);
             let Built::Ends(end) = r else {
                 return r;
             };
             name_field(room, at, to, end, name)
         }
-        Found::None => Built::None,
+        None => Built::None,
     }
 }
 
 // All fields of a structure or a block, under their head.
 #[cycle(defaults_of_places)]
 fn fields(
-    file: &[u32],
-    source: &[usize],
+    file: &File<'_>,
     known: &[u32],
     store: &[u32],
     place: Place,
@@ -139,21 +133,21 @@ fn fields(
     room: &mut [u32],
     at: usize,
 ) -> Built
-    requires { Ready file.now source.now known.now store.now × PlaceIn file.now place × (section < 14) × (first + many < 2 ^ 32) × (at + implicit_levels file.now place * tree_words ≤ length room.old) }
-    ensures { Builds file.now known.now store.now flatten (structured (fields_by file.now (default_of file.now) place (listed_names file.now section first many))) at room.old result room.new }
+    requires { Ready file.now.source known.now store.now × PlaceIn file.now.source place × (section < 14) × (first + many < 2 ^ 32) × (at + implicit_levels file.now.source place * tree_words ≤ length room.old) }
+    ensures { Builds file.now.source known.now store.now flatten (structured (fields_by file.now.source (default_of file.now.source) place (listed_names file.now.source section first many))) at room.old result room.new }
 {
     let mut k = first;
     let mut left = many;
     let mut made: u32 = 0;
     let mut to = at + NODE_WORDS;
     while left > 0 {
-        if !is_listed(file, source, section, k) {
+        if !is_listed(&file.source, section, k) {
             k += 1;
             left -= 1;
             continue;
         }
-        let name = word(file, source, section, k, 0);
-        let r = field_default(file, source, known, store, place, name, room, at, to);
+        let name = file.source.word(section, k, 0);
+        let r = field_default(file, known, store, place, name, room, at, to);
         let Built::Ends(end) = r else {
             return r;
         };
@@ -168,8 +162,7 @@ fn fields(
 // Every element's default, listed flat under an array's head.
 #[cycle(defaults_of_places)]
 pub fn element_defaults(
-    file: &[u32],
-    source: &[usize],
+    file: &File<'_>,
     known: &[u32],
     store: &[u32],
     place: Place,
@@ -179,13 +172,13 @@ pub fn element_defaults(
     room: &mut [u32],
     at: usize,
 ) -> Built
-    requires { Ready file.now source.now known.now store.now × PlaceIn file.now place × (place.shape ≡ shape.Array element first many) × (at + 6 + start_levels file.now (element_place file.now place element) * tree_words ≤ length room.old) × (at + tree_words ≤ length room.old) }
-    ensures { Builds file.now known.now store.now array_words (element_defaults file.now (default_of file.now) place) at room.old result room.new }
+    requires { Ready file.now.source known.now store.now × PlaceIn file.now.source place × (place.shape ≡ shape.Array element first many) × (at + 6 + start_levels file.now.source (element_place file.now.source place element) * tree_words ≤ length room.old) × (at + tree_words ≤ length room.old) }
+    ensures { Builds file.now.source known.now store.now array_words (element_defaults file.now.source (default_of file.now.source) place) at room.old result room.new }
 {
-    let inner = element_place(file, source, known, place, element);
-    let r = default_of(file, source, known, store, inner, room, at + NODE_WORDS);
+    let inner = element_place(file, known, place, element);
+    let r = default_of(file, known, store, inner, room, at + NODE_WORDS);
     let Built::Ends(end) = r else {
         return r;
     };
-    spread(file, source, first, many, room, at, end)
+    spread(&file.source, first, many, room, at, end)
 }

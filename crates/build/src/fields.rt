@@ -1,25 +1,25 @@
 // Fields under a structure's head.
+#![tactic(auto, using(crate::proofs::fields::Laws::laws))]
+
 ghost use Rattle.std.specs.Prelude.{◌≡◌, ◌+◌, ◌*◌, ◌≤◌, ◌<◌, length};
-ghost use Rattle.records.specs.Starts.{StartsOf};
 ghost use Rattle.definition.specs.Tree.{tree_words};
 ghost use Rattle.build.specs.Parts.{is_listed};
 ghost use Rattle.build.specs.Fields.{NamesField, HeadsStructure};
 
 use crate::built::Built;
 use definition::layout::{BLOCK_FIELDS, TREE_WORDS};
-use records::words::word;
-use tree::extent::Extent;
+use records::source::Source;
 use tree::node::write_structure;
 
 // In-outs of a block are no fields of its instances.
-pub fn is_listed(file: &[u32], source: &[usize], section: usize, k: u32) -> bool
-    requires { StartsOf file.now source.now × (section < 14) }
+pub fn is_listed(file: &Source<'_>, section: usize, k: u32) -> bool
+    requires { (section < 14) }
     ensures { result ≡ is_listed file.now section k }
 {
     if section != BLOCK_FIELDS {
         return true;
     }
-    word(file, source, section, k, 2) != 2
+    file.word(section, k, 2) != 2
 }
 
 // A field's tree takes its name, where all that is gathered under the head at `at` is small enough.

@@ -1,4 +1,6 @@
 // The default of a type, as it is remembered.
+#![tactic(auto, using(crate::proofs::remembered::Laws::laws))]
+
 ghost use Rattle.std.specs.Prelude.{◌+◌, ◌≤◌, length};
 ghost use Rattle.definition.specs.Ask.{type_default};
 ghost use Rattle.definition.specs.Tree.{flatten, tree_words};
@@ -6,11 +8,12 @@ ghost use Rattle.laws.specs.Used.{IsType};
 ghost use Rattle.build.specs.Built.{index_at, Builds};
 
 use crate::built::{Built, INDEX_AT};
-use lines::copy::{Copied, copy_known};
+use lines::copy::{Uncopied, copy_known};
+use records::source::Source;
 
 // A known tree is copied; a type in progress has none; an unknown one is wanted. There is room for every tree, so that the copy always fits.
 pub fn type_default(
-    file: &[u32],
+    file: &Source<'_>,
     known: &[u32],
     store: &[u32],
     t: u32,
@@ -21,10 +24,10 @@ pub fn type_default(
     ensures { Builds file.now known.now store.now flatten (type_default t) at room.old result room.new }
 {
     match copy_known(&known[INDEX_AT..], store, t, room, at) {
-        Copied::Unknown => Built::Wanted(t),
-        Copied::None => Built::None,
-        Copied::TooLarge => Built::TooLarge,
-        Copied::Ends(end) => Built::Ends(end),
-        Copied::Full => Built::None,
+        Err(Uncopied::Unknown) => Built::Wanted(t),
+        Err(Uncopied::None) => Built::None,
+        Err(Uncopied::TooLarge) => Built::TooLarge,
+        Ok(end) => Built::Ends(end),
+        Err(Uncopied::Full) => Built::None,
     }
 }

@@ -1,19 +1,20 @@
 // The values that an element's default stands for, so many times under an array's head.
+#![tactic(auto, using(crate::proofs::spread::Laws::laws))]
+
 ghost use Rattle.std.specs.Prelude.{◌≡◌, ◌+◌, ◌*◌, ◌≤◌, ◌<◌, min, length};
 ghost use Rattle.definition.specs.Accept.{elements_of};
-ghost use Rattle.records.specs.Starts.{StartsOf};
 ghost use Rattle.definition.specs.Tree.{tree_words};
 ghost use Rattle.build.specs.Parts.{Spreads, WholeAt};
 ghost use Rattle.build.specs.Spread.{Flattens};
 
 use crate::built::Built;
 use definition::layout::NODE_WORDS;
+use records::source::Source;
 use shapes::arrays::elements;
-use tree::extent::Extent;
 use tree::node::write_array;
 use tree::part::{Value, value_at};
 use tree::words::shift;
-use tree_changes::grow::{Grown, repeat};
+use tree_changes::grow::{Unfit, repeat};
 
 // So many values, with so many nodes in all.
 #[derive(Clone, Copy)]
@@ -29,7 +30,10 @@ pub fn flatten_values(room: &mut [u32], at: usize, end: usize) -> Values
 {
     let nodes = (end - at) / NODE_WORDS;
     let v = value_at(room, at);
-    let Value::Array(count) = v else {
+    let Some(value) = v else {
+        return Values { count: 1, nodes };
+    };
+    let Value::Array(count) = value else {
         return Values { count: 1, nodes };
     };
     shift(room, at + NODE_WORDS, (nodes - 1) * NODE_WORDS, at);
@@ -46,28 +50,27 @@ fn spread_times(room: &mut [u32], at: usize, end: usize, times: usize) -> Built
 {
     let v = flatten_values(room, at + NODE_WORDS, end);
     match repeat(room, at + NODE_WORDS, v.nodes, times) {
-        Grown::Ends(e) => {
+        Ok(e) => {
             write_array(room, at, v.count * (times as u32));
             Built::Ends(e)
         }
-        Grown::TooLarge => Built::TooLarge,
-        Grown::Not => Built::None,
+        Err(Unfit::TooLarge) => Built::TooLarge,
+        Err(Unfit::Outside) => Built::None,
     }
 }
 
 // The same for each element of an array of some dimensions.
 pub fn spread(
-    file: &[u32],
-    source: &[usize],
+    file: &Source<'_>,
     first: u32,
     many: u32,
     room: &mut [u32],
     at: usize,
     end: usize,
 ) -> Built
-    requires { StartsOf file.now source.now × WholeAt room.old (at + 6) end × (at + tree_words ≤ length room.old) }
+    requires { WholeAt room.old (at + 6) end × (at + tree_words ≤ length room.old) }
     ensures { Spreads (elements_of file.now first many) at end room.old result room.new }
 {
-    let times = elements(file, source, first, many) as usize;
+    let times = elements(file, first, many) as usize;
     spread_times(room, at, end, times)
 }

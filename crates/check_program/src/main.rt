@@ -2,15 +2,16 @@
 // Bytes that are no whole words are refusal 1 of a declaration file, and 11 of a sheet. It prints `long` where the words are more than it has room for.
 #![tactic(auto)]
 
-ghost use Rattle.std.specs.Prelude.{◌<◌};
+mod unread;
+mod words;
 
-use definition::answers::CheckAnswer;
+use definition::answers::Refusal;
 use sheet::check::check_sheet;
 use std::env::Env;
 use std::fs::Files;
-use std::io::Read;
 use std::{fs, io};
-use vector_io::read_full;
+use unread::Unread;
+use words::read_words;
 
 // A quarter of the words of the longest file.
 const FILE_WORDS: usize = 65536;
@@ -21,130 +22,58 @@ const ROOM_WORDS: usize = 1376256;
 // As long as a path of the system may be.
 const NAME_BYTES: usize = 4096;
 
-// How many words a file has, or why they are not read.
-#[derive(Clone, Copy)]
-enum Input {
-    Words(usize),
-    Odd,
-    Long,
-    Missing,
-}
-
-// What the next four bytes are.
-#[derive(Clone, Copy)]
-enum Next {
-    Word(u32),
-    Odd,
-    End,
-}
-
-fn wide(b: u8) -> u32
-    ensures { result < 256 }
-{
-    b as u32
-}
-
-fn next_word(reader: &mut impl Read) -> io::Result<Next> {
-    let mut four = [0u8; 4];
-    let count = read_full(reader, &mut four)?;
-    if count == 0 {
-        return Ok(Next::End);
-    }
-    if count < 4 {
-        return Ok(Next::Odd);
-    }
-    let low = wide(four[0]) + wide(four[1]) * 256;
-    let high = wide(four[2]) + wide(four[3]) * 256;
-    Ok(Next::Word(low + high * 65536))
-}
-
-// Reads words until the input ends or there is no room.
-fn read_words(reader: &mut impl Read, words: &mut [u32]) -> io::Result<Input> {
-    let mut i: usize = 0;
-    while i < words.len() {
-        let next = next_word(reader)?;
-        match next {
-            Next::Word(w) => words[i] = w,
-            Next::Odd => return Ok(Input::Odd),
-            Next::End => return Ok(Input::Words(i)),
-        }
-        i += 1;
-    }
-    let next = next_word(reader)?;
-    match next {
-        Next::Word(_) => Ok(Input::Long),
-        Next::Odd => Ok(Input::Long),
-        Next::End => Ok(Input::Words(i)),
-    }
-}
-
 // A name that is no UTF-8 names no file that `std::fs` can open.
-fn read_named(rt: &(impl Files + Eprint), name: &[u8], words: &mut [u32]) -> io::Result<Input> {
+fn read_named<'a>(
+    rt: &(impl Files + Eprint),
+    name: &[u8],
+    words: &'a mut [u32],
+) -> Result<&'a [u32], Unread> {
     let Ok(path) = str::from_utf8(name) else {
         rt.eprintln("check_program: the name of a file is no UTF-8")?;
-        return Ok(Input::Missing);
+        return Err(Unread::Missing);
     };
     match fs::open(rt, path) {
         Ok(mut file) => read_words(&mut file, words),
         Err(error) => {
             eprintln!(rt; "{path}: {error}")?;
-            Ok(Input::Missing)
+            Err(Unread::Missing)
         }
     }
 }
 
 // The file that argument k names.
-fn read_argument(
+fn read_argument<'a>(
     rt: &(impl Files + Env + Eprint),
     k: usize,
-    words: &mut [u32],
-) -> io::Result<Input> {
+    words: &'a mut [u32],
+) -> Result<&'a [u32], Unread> {
     let mut name = [0u8; NAME_BYTES];
     let Ok(length) = rt.arg(k, &mut name) else {
         rt.eprintln("usage: check_program FILE SHEET")?;
-        return Ok(Input::Missing);
+        return Err(Unread::Missing);
     };
     read_named(rt, &name[..length], words)
 }
 
-fn print_refused(rt: &impl Print, number: u32) -> io::Result<()> {
-    println!(rt; "refused {number}")
+fn print_refused(rt: &impl Print, refusal: Refusal) -> io::Result<()> {
+    println!(rt; "refused {}", refusal.number())
 }
 
-fn print_answer(rt: &impl Print, answer: CheckAnswer) -> io::Result<()> {
+fn print_answer(rt: &impl Print, answer: Result<(), Refusal>) -> io::Result<()> {
     match answer {
-        CheckAnswer::Passes => rt.println("passes"),
-        CheckAnswer::Refused(n) => print_refused(rt, n),
+        Ok(()) => rt.println("passes"),
+        Err(refusal) => print_refused(rt, refusal),
     }
 }
 
-// How many words were read; where they were not, why is printed and the answer is more than there is room for.
-fn words_read(rt: &impl Print, input: Input, odd: u32) -> io::Result<usize> {
-    match input {
-        Input::Words(n) => return Ok(n),
-        Input::Odd => print_refused(rt, odd)?,
-        Input::Long => rt.println("long")?,
-        Input::Missing => {}
+// Why words were not read; a missing file is known already.
+fn print_unread(rt: &impl Print, unread: Unread, odd: Refusal) -> io::Result<()> {
+    match unread {
+        Unread::Odd => print_refused(rt, odd),
+        Unread::Long => rt.println("long"),
+        Unread::Missing => Ok(()),
+        Unread::Failed(error) => Err(error),
     }
-    Ok(usize::MAX)
-}
-
-fn check_fronts(
-    rt: &impl Print,
-    file: &[u32],
-    file_words: usize,
-    sheet: &[u32],
-    sheet_words: usize,
-    room: &mut [u32],
-) -> io::Result<()> {
-    if file.len() < file_words {
-        return Ok(());
-    }
-    if sheet.len() < sheet_words {
-        return Ok(());
-    }
-    let answer = check_sheet(&file[..file_words], &sheet[..sheet_words], room);
-    print_answer(rt, answer)
 }
 
 fn check_named(
@@ -153,12 +82,15 @@ fn check_named(
     sheet: &mut [u32],
     room: &mut [u32],
 ) -> io::Result<()> {
-    let file_words = words_read(rt, read_argument(rt, 1, file)?, 1)?;
-    if file.len() < file_words {
-        return Ok(());
-    }
-    let sheet_words = words_read(rt, read_argument(rt, 2, sheet)?, 11)?;
-    check_fronts(rt, &file[..], file_words, &sheet[..], sheet_words, room)
+    let file = match read_argument(rt, 1, file) {
+        Ok(words) => words,
+        Err(unread) => return print_unread(rt, unread, Refusal::Ends),
+    };
+    let sheet = match read_argument(rt, 2, sheet) {
+        Ok(words) => words,
+        Err(unread) => return print_unread(rt, unread, Refusal::Sections),
+    };
+    print_answer(rt, check_sheet(file, sheet, room))
 }
 
 fn main(rt: HostRuntime) -> io::Result<()> {

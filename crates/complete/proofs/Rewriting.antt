@@ -132,32 +132,32 @@ module _ (f : List ℕ) where
   unfolding rewrote
   step s at k h = rw (length-take-le at s (omega arith)) at (over-node (drop at s) (here f s at h) (take at s) k)
 
--- the nodes that are left come to what all of them come to
-pub record Going (f old : List ℕ) (from nodes : ℕ) (room : List ℕ) (at left : ℕ) : Type 0 where
-  pub same : rewrote f left room at ≡ rewrote f nodes old from
-  pub fits : at + 6 * left ≤ length room
+-- after i nodes, those that are left come to what all of them come to
+pub record Going (f old : List ℕ) (from nodes : ℕ) (room : List ℕ) (at i : ℕ) : Type 0 where
+  pub same : rewrote f (nodes - i) room at ≡ rewrote f nodes old from
+  pub fits : at + 6 * (nodes - i) ≤ length room
   pub long : length room ≡ length old
 
-pub going-starts : (f old : List ℕ) (from nodes : ℕ) → from + 6 * nodes ≤ length old → Going f old from nodes old from nodes
-going-starts f old from nodes h = record { same = refl; fits = h; long = refl }
+pub going-starts : (f old : List ℕ) (from nodes : ℕ) → from + 6 * nodes ≤ length old → Going f old from nodes old from 0
+going-starts f old from nodes h = let z : nodes - 0 ≡ nodes = omega arith in record { same = rw z refl; fits = omega arith; long = refl }
 
-module _ {f old : List ℕ} {from nodes : ℕ} {room : List ℕ} {at left : ℕ} (g : Going f old from nodes room at left) where
-  pub going-fits : 0 < left → at + 6 ≤ length room
+module _ {f old : List ℕ} {from nodes : ℕ} {room : List ℕ} {at i : ℕ} (g : Going f old from nodes room at i) where
+  pub going-fits : i < nodes → at + 6 ≤ length room
   going-fits h = omega (arith, g.fits)
 
-  pub going_next : 0 < left → {new : List ℕ} → new ≡ rewrote f 1 room at → Going f old from nodes new (at + 6) (left - 1)
+  pub going_next : i < nodes → {new : List ℕ} → new ≡ rewrote f 1 room at → Going f old from nodes new (at + 6) (i + 1)
   going_next h {new} e =
       let l : length new ≡ length room = rw e (rewrote-length f 1 room at) in
-      let k : left ≡ suc (left - 1) = omega arith in
-      let s : rewrote f left room at ≡ rewrote f (left - 1) new (at + 6) = ap (λ (n : ℕ). rewrote f n room at) k ∙ step f room at (left - 1) (going-fits h) ∙ ap (λ (x : List ℕ). rewrote f (left - 1) x (at + 6)) (sym e) in
+      let k : nodes - i ≡ suc (nodes - (i + 1)) = omega arith in
+      let s : rewrote f (nodes - i) room at ≡ rewrote f (nodes - (i + 1)) new (at + 6) = ap (λ (n : ℕ). rewrote f n room at) k ∙ step f room at (nodes - (i + 1)) (going-fits h) ∙ ap (λ (x : List ℕ). rewrote f (nodes - (i + 1)) x (at + 6)) (sym e) in
       record { same = sym s ∙ g.same; fits = omega (arith, g.fits); long = l ∙ g.long }
 
   pub going-long : length room ≡ length old
   going-long = g.long
 
-  pub going-ends : left ≤ 0 → room ≡ rewrote f nodes old from
+  pub going-ends : nodes ≤ i → room ≡ rewrote f nodes old from
   unfolding rewrote rewritten
-  going-ends h = let z : left ≡ 0 = omega arith in sym (take-append-drop at room) ∙ rw z at g.same
+  going-ends h = let z : nodes - i ≡ 0 = omega arith in sym (take-append-drop at room) ∙ rw z at g.same
 
 -- ---- a slot's value
 module _ (f : List ℕ) (s : List ℕ) (at end : ℕ) {kind : ℕ} where
@@ -169,6 +169,6 @@ module _ (f : List ℕ) (s : List ℕ) (at end : ℕ) {kind : ℕ} where
   unfolding valued
   value-parts n e = rw (ne_eqb kind 2 n) e
 
-pub ruleset nodes = (rules, node-reference, node-other)
+pub ruleset nodes = (rules, node-reference, node-other, node-expression, node-null)
 
 pub ruleset rewrites = (rules, going-starts, going-fits, going_next, going-long, going-ends, value-signed, value-parts)

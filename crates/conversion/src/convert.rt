@@ -1,85 +1,74 @@
 // A constant of a file as the node that it gives a place of one of the file's shapes.
-ghost use Rattle.std.specs.Prelude.{◌≡◌, length};
+#![tactic(auto, using(crate::proofs::convert::Laws::conversions))]
+
+ghost use Rattle.std.specs.Prelude.{◌≡◌, MatchResult, length};
 ghost use Rattle.definition.specs.Tree.{flatten, constant_tree};
-ghost use Rattle.definition.specs.Ask.{ok};
+ghost use Rattle.definition.specs.Ask.{ok, result_of};
 ghost use Rattle.definition.specs.Scalar.{as_tree};
-ghost use Rattle.definition.specs.Answers.{over, tree_says, tree_answer};
-ghost use Rattle.scalar.specs.Node.{result_of};
+ghost use Rattle.definition.specs.Answers.{number_of, over, tree_says, tree_answer};
 ghost use Rattle.conversion.specs.Convert as Convert;
 ghost use Rattle.conversion.specs.Convert.{Both, value_at, convert_refused, convert_answer, convert_out};
 
-use acceptance::accept::accept;
-use definition::answers::{Acceptance, TreeAnswer};
+use acceptance::accept::accepted;
+use definition::answers::Refusal;
 use definition::layout::{CONSTANTS, NODE_WORDS, SHAPES};
 use definition::records::Constant;
 use places::values::constant_value;
-use records::view::shape_at;
-use records::words::{count, find_sections};
-use scalar::node::{Leaf, node};
+use records::file::File;
+use records::source::Source;
+use scalar::node::node;
 
-fn value_at(file: &[u32], shape: u32, constant: u32) -> Leaf
-    requires { Both file.now shape constant }
-    ensures { as_tree (result_of result) ≡ value_at file.now shape constant }
+fn value_at(file: &File<'_>, shape: u32, constant: u32) -> Option<Constant>
+    requires { Both file.now.source shape constant }
+    ensures { as_tree (result_of result) ≡ value_at file.now.source shape constant }
 {
-    let source = find_sections(file);
-    let s = shape_at(file, &source, shape);
-    constant_value(file, &source, s, constant)
+    let s = file.source.shape(shape);
+    constant_value(file, s, constant)
 }
 
-fn there(file: &[u32], shape: u32, constant: u32) -> bool
+fn there(file: &Source<'_>, shape: u32, constant: u32) -> bool
     ensures { result ≡ Convert.there file.now shape constant }
 {
-    let source = find_sections(file);
-    if shape < count(file, &source, SHAPES) {
-        return constant < count(file, &source, CONSTANTS);
-    }
-    false
+    shape < file.count(SHAPES) && constant < file.count(CONSTANTS)
 }
 
-fn refused(file: &[u32], shape: u32, constant: u32) -> u32
-    ensures { result ≡ convert_refused file.now shape constant }
+// The accepted file that these words are, where both numbers are a record's, or its first refusal.
+fn asked(words: &[u32], shape: u32, constant: u32) -> Result<File<'_>, Refusal>
+    ensures { MatchResult result (λ file. (file.source ≡ words.now) × (convert_refused words.now shape constant ≡ 0)) (λ refusal. number_of refusal ≡ convert_refused words.now shape constant) }
 {
-    match accept(file) {
-        Acceptance::Accepted => {
-            if there(file, shape, constant) {
-                return 0;
-            }
-            7
-        }
-        Acceptance::Refused(n) => n,
+    let file = accepted(words)?;
+    if there(&file.source, shape, constant) {
+        Ok(file)
+    } else {
+        Err(Refusal::Missing)
     }
 }
 
 // Writes a constant's node where there is room.
-#[tactic(auto, using(crate::proofs::convert::Laws::conversions))]
-fn put(c: Constant, out: &mut [u32]) -> TreeAnswer
+fn put(c: Constant, out: &mut [u32]) -> Result<Option<usize>, Refusal>
     ensures says { tree_says result ≡ tree_answer (ok (constant_tree c)) (length out.old) }
     ensures wrote { out.new ≡ over (flatten (constant_tree c)) out.old }
 {
     if out.len() < NODE_WORDS {
-        return TreeAnswer::Refused(10);
+        return Err(Refusal::Short);
     }
     let words = node(c);
-    out[0] = words[0];
-    out[1] = words[1];
-    out[2] = words[2];
-    out[3] = words[3];
-    out[4] = words[4];
-    out[5] = words[5];
-    TreeAnswer::Tree(1)
+    out[..NODE_WORDS].copy_from_slice(&words);
+    Ok(Some(1))
 }
 
-pub fn convert(file: &[u32], shape: u32, constant: u32, out: &mut [u32]) -> TreeAnswer
-    ensures says { tree_says result ≡ convert_answer file.now shape constant (length out.old) }
-    ensures wrote { out.new ≡ convert_out file.now shape constant out.old }
+pub fn convert(
+    words: &[u32],
+    shape: u32,
+    constant: u32,
+    out: &mut [u32],
+) -> Result<Option<usize>, Refusal>
+    ensures says { tree_says result ≡ convert_answer words.now shape constant (length out.old) }
+    ensures wrote { out.new ≡ convert_out words.now shape constant out.old }
 {
-    let refusal = refused(file, shape, constant);
-    if refusal != 0 {
-        return TreeAnswer::Refused(refusal);
-    }
-    let leaf = value_at(file, shape, constant);
-    match leaf {
-        Leaf::Value(c) => put(c, out),
-        Leaf::None => TreeAnswer::None,
+    let file = asked(words, shape, constant)?;
+    match value_at(&file, shape, constant) {
+        Some(c) => put(c, out),
+        None => Ok(None),
     }
 }

@@ -2,10 +2,8 @@
 ghost use Rattle.std.specs.Prelude.{◌≡◌, ◌+◌, ◌*◌, ◌≤◌, ◌<◌, length};
 ghost use Rattle.definition.specs.Starting.{subrange_default};
 ghost use Rattle.definition.specs.Tree.{flatten, tree_words};
-ghost use Rattle.laws.specs.Accepted.{Accepted};
 ghost use Rattle.laws.specs.Links.{Link};
 ghost use Rattle.laws.specs.Used.{IsType};
-ghost use Rattle.records.specs.Starts.{StartsOf};
 ghost use Rattle.places.specs.Inside.{PlaceIn};
 ghost use Rattle.build.specs.Built.{Ready, Builds};
 ghost use Rattle.build.specs.Parts.{implicit_levels};
@@ -22,13 +20,11 @@ use initial::stated::{
     array_or_spec, constant_or_implicit, constant_or_named, members_over_named, spec_default,
 };
 use initial::values::constant_start;
-use records::view::initializer_at;
-use records::words::word;
+use records::file::File;
 
 // The default that an alias gives its type.
 pub fn alias_default(
-    file: &[u32],
-    source: &[usize],
+    file: &File<'_>,
     known: &[u32],
     store: &[u32],
     place: Place,
@@ -36,49 +32,48 @@ pub fn alias_default(
     room: &mut [u32],
     at: usize,
 ) -> Built
-    requires { Ready file.now source.now known.now store.now × PlaceIn file.now place × AliasIn file.now i × (at + alias_levels file.now i place * tree_words ≤ length room.old) }
-    ensures { Builds file.now known.now store.now flatten (alias_default file.now i place) at room.old result room.new }
+    requires { Ready file.now.source known.now store.now × PlaceIn file.now.source place × AliasIn file.now.source i × (at + alias_levels file.now.source i place * tree_words ≤ length room.old) }
+    ensures { Builds file.now.source known.now store.now flatten (alias_default file.now.source i place) at room.old result room.new }
 {
-    let v = initializer_at(file, source, i);
-    let name = word(file, source, INITIALIZERS, i, 1);
+    let v = file.source.initializer(i);
+    let name = file.source.word(INITIALIZERS, i, 1);
     match v {
         Initializer::Subrange { value: _ } => spec_default(
-            file, source, known, store, place, name, room, at,
+            file, known, store, place, name, room, at,
         ),
         Initializer::Simple { value } => constant_or_named(
-            file, source, known, store, place, value, name, room, at,
+            file, known, store, place, value, name, room, at,
         ),
         Initializer::String {
             value,
             length: _,
             width: _,
-        } => constant_or_implicit(file, source, known, store, place, value, room, at),
+        } => constant_or_implicit(file, known, store, place, value, room, at),
         Initializer::FunctionBlock { first, count } => members_over_named(
-            file, source, known, store, place, name, first, count, room, at,
+            file, known, store, place, name, first, count, room, at,
         ),
         Initializer::Structure { first, count } => members_over_named(
-            file, source, known, store, place, name, first, count, room, at,
+            file, known, store, place, name, first, count, room, at,
         ),
         Initializer::Array { first, count } => array_or_spec(
-            file, source, known, store, place, name, first, count, room, at,
+            file, known, store, place, name, first, count, room, at,
         ),
         Initializer::Unknown => Built::None,
-        _ => implicit(file, source, known, store, place, room, at),
+        _ => implicit(file, known, store, place, room, at),
     }
 }
 
 // A subrange's own start value wins although its base gives none, but not where the base is too large.
 fn over_base(
-    file: &[u32],
-    source: &[usize],
+    file: &File<'_>,
     place: Place,
     start: u32,
     base: Built,
     room: &mut [u32],
     at: usize,
 ) -> Built
-    requires { StartsOf file.now source.now × Accepted file.now × PlaceIn file.now place × ValueIn file.now stated.Constant start × (at + 6 ≤ length room.old) }
-    ensures { Over file.now place start at base room.old result room.new }
+    requires { PlaceIn file.now.source place × ValueIn file.now.source stated.Constant start × (at + 6 ≤ length room.old) }
+    ensures { Over file.now.source place start at base room.old result room.new }
 {
     if start == 0 {
         return base;
@@ -86,14 +81,13 @@ fn over_base(
     match base {
         Built::TooLarge => Built::TooLarge,
         Built::Wanted(d) => Built::Wanted(d),
-        _ => constant_start(file, source, place, start - 1, room, at),
+        _ => constant_start(file, place, start - 1, room, at),
     }
 }
 
 // The default of a subrange.
 pub fn subrange_default(
-    file: &[u32],
-    source: &[usize],
+    file: &File<'_>,
     known: &[u32],
     store: &[u32],
     place: Place,
@@ -102,20 +96,19 @@ pub fn subrange_default(
     room: &mut [u32],
     at: usize,
 ) -> Built
-    requires { Ready file.now source.now known.now store.now × PlaceIn file.now place × SpecIn file.now name × ValueIn file.now stated.Constant start × (at + implicit_levels file.now place * tree_words ≤ length room.old) }
-    ensures { Builds file.now known.now store.now flatten (subrange_default file.now place name start) at room.old result room.new }
+    requires { Ready file.now.source known.now store.now × PlaceIn file.now.source place × SpecIn file.now.source name × ValueIn file.now.source stated.Constant start × (at + implicit_levels file.now.source place * tree_words ≤ length room.old) }
+    ensures { Builds file.now.source known.now store.now flatten (subrange_default file.now.source place name start) at room.old result room.new }
 {
     if name == 0 {
         return Built::None;
     }
-    let base = spec_default(file, source, known, store, place, name, room, at);
-    over_base(file, source, place, start, base, room, at)
+    let base = spec_default(file, known, store, place, name, room, at);
+    over_base(file, place, start, base, room, at)
 }
 
 // The default of an alias's base, or the implicit default.
 pub fn base_default(
-    file: &[u32],
-    source: &[usize],
+    file: &File<'_>,
     known: &[u32],
     store: &[u32],
     place: Place,
@@ -123,19 +116,18 @@ pub fn base_default(
     room: &mut [u32],
     at: usize,
 ) -> Built
-    requires { Ready file.now source.now known.now store.now × PlaceIn file.now place × Link (IsType file.now) base × (at + implicit_levels file.now place * tree_words ≤ length room.old) }
-    ensures { Builds file.now known.now store.now flatten (base_default file.now place base) at room.old result room.new }
+    requires { Ready file.now.source known.now store.now × PlaceIn file.now.source place × Link (IsType file.now.source) base × (at + implicit_levels file.now.source place * tree_words ≤ length room.old) }
+    ensures { Builds file.now.source known.now store.now flatten (base_default file.now.source place base) at room.old result room.new }
 {
     if base == 0 {
-        return implicit(file, source, known, store, place, room, at);
+        return implicit(file, known, store, place, room, at);
     }
-    type_default(file, known, store, base - 1, room, at)
+    type_default(&file.source, known, store, base - 1, room, at)
 }
 
 // The default of a type that a simple declaration declares.
 pub fn simple_default(
-    file: &[u32],
-    source: &[usize],
+    file: &File<'_>,
     known: &[u32],
     store: &[u32],
     place: Place,
@@ -143,11 +135,11 @@ pub fn simple_default(
     room: &mut [u32],
     at: usize,
 ) -> Built
-    requires { Ready file.now source.now known.now store.now × PlaceIn file.now place × StartIn file.now start × (at + simple_levels file.now start place * tree_words ≤ length room.old) }
-    ensures { Builds file.now known.now store.now flatten (simple_default file.now place start) at room.old result room.new }
+    requires { Ready file.now.source known.now store.now × PlaceIn file.now.source place × StartIn file.now.source start × (at + simple_levels file.now.source start place * tree_words ≤ length room.old) }
+    ensures { Builds file.now.source known.now store.now flatten (simple_default file.now.source place start) at room.old result room.new }
 {
     if start == 0 {
         return Built::None;
     }
-    alias_default(file, source, known, store, place, start - 1, room, at)
+    alias_default(file, known, store, place, start - 1, room, at)
 }

@@ -21,13 +21,11 @@ use definition::records::{Declaration, Place};
 use initial::stated::{array_or_spec, constant_or_implicit};
 use initial::values::null_start;
 use places::place::place_of;
-use records::view::declaration_at;
-use records::words::word;
+use records::file::File;
 
 // An instance of a function block: its inputs, outputs and internal variables.
 fn block_default(
-    file: &[u32],
-    source: &[usize],
+    file: &File<'_>,
     known: &[u32],
     store: &[u32],
     place: Place,
@@ -36,18 +34,15 @@ fn block_default(
     room: &mut [u32],
     at: usize,
 ) -> Built
-    requires { Ready file.now source.now known.now store.now × PlaceIn file.now place × PartsIn file.now variables first many × (at + parts_levels file.now place variables first many * tree_words ≤ length room.old) }
-    ensures { Builds file.now known.now store.now flatten (structured (instance_from file.now first many)) at room.old result room.new }
+    requires { Ready file.now.source known.now store.now × PlaceIn file.now.source place × PartsIn file.now.source variables first many × (at + parts_levels file.now.source place variables first many * tree_words ≤ length room.old) }
+    ensures { Builds file.now.source known.now store.now flatten (structured (instance_from file.now.source first many)) at room.old result room.new }
 {
-    parts(
-        file, source, known, store, place, VARIABLES, first, many, room, at,
-    )
+    parts(file, known, store, place, VARIABLES, first, many, room, at)
 }
 
 // The default that a type's declaration gives it.
 fn declared_default(
-    file: &[u32],
-    source: &[usize],
+    file: &File<'_>,
     known: &[u32],
     store: &[u32],
     place: Place,
@@ -56,17 +51,16 @@ fn declared_default(
     room: &mut [u32],
     at: usize,
 ) -> Built
-    requires { Ready file.now source.now known.now store.now × PlaceIn file.now place × IsType file.now t × (d ≡ declaration_at file.now t) × (at + body_levels_by file.now place d * tree_words ≤ length room.old) }
-    ensures { Builds file.now known.now store.now flatten (body_by file.now t place d) at room.old result room.new }
+    requires { Ready file.now.source known.now store.now × PlaceIn file.now.source place × IsType file.now.source t × (d ≡ declaration_at file.now.source t) × (at + body_levels_by file.now.source place d * tree_words ≤ length room.old) }
+    ensures { Builds file.now.source known.now store.now flatten (body_by file.now.source t place d) at room.old result room.new }
 {
     match d {
         Declaration::Nothing => {
-            let base = word(file, source, TYPES, t, 1);
-            base_default(file, source, known, store, place, base, room, at)
+            let base = file.source.word(TYPES, t, 1);
+            base_default(file, known, store, place, base, room, at)
         }
         Declaration::Simple { initializer } => simple_default(
             file,
-            source,
             known,
             store,
             place,
@@ -75,44 +69,41 @@ fn declared_default(
             at,
         ),
         Declaration::Subrange { named, start } => subrange_default(
-            file, source, known, store, place, named, start, room, at,
+            file, known, store, place, named, start, room, at,
         ),
         Declaration::String { start } => constant_or_implicit(
-            file, source, known, store, place, start, room, at,
+            file, known, store, place, start, room, at,
         ),
         Declaration::Array {
             named,
             first,
             count,
-        } => array_or_spec(
-            file, source, known, store, place, named, first, count, room, at,
-        ),
+        } => array_or_spec(file, known, store, place, named, first, count, room, at),
         Declaration::Structure { first, count } => parts(
-            file, source, known, store, place, ELEMENTS, first, count, room, at,
+            file, known, store, place, ELEMENTS, first, count, room, at,
         ),
         Declaration::Reference { named: _ } => null_start(room, at),
         Declaration::FunctionBlock { first, count } => block_default(
-            file, source, known, store, place, first, count, room, at,
+            file, known, store, place, first, count, room, at,
         ),
         Declaration::Unknown => Built::None,
-        _ => implicit(file, source, known, store, place, room, at),
+        _ => implicit(file, known, store, place, room, at),
     }
 }
 
 // The default of the type t as its record says it.
 pub fn body(
-    file: &[u32],
-    source: &[usize],
+    file: &File<'_>,
     known: &[u32],
     store: &[u32],
     t: u32,
     room: &mut [u32],
     at: usize,
 ) -> Built
-    requires { Ready file.now source.now known.now store.now × IsType file.now t × (at + body_levels file.now t * tree_words ≤ length room.old) }
-    ensures { Builds file.now known.now store.now flatten (Defaults.body file.now t) at room.old result room.new }
+    requires { Ready file.now.source known.now store.now × IsType file.now.source t × (at + body_levels file.now.source t * tree_words ≤ length room.old) }
+    ensures { Builds file.now.source known.now store.now flatten (Defaults.body file.now.source t) at room.old result room.new }
 {
-    let place = place_of(file, source, t);
-    let d = declaration_at(file, source, t);
-    declared_default(file, source, known, store, place, t, d, room, at)
+    let place = place_of(&file.source, t);
+    let d = file.source.declaration(t);
+    declared_default(file, known, store, place, t, d, room, at)
 }

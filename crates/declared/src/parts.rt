@@ -4,7 +4,6 @@ ghost use Rattle.definition.specs.Layout as Layout;
 ghost use Rattle.definition.specs.Layout.{elements};
 ghost use Rattle.definition.specs.Parts.{structured};
 ghost use Rattle.definition.specs.Tree.{flatten, tree_words};
-ghost use Rattle.records.specs.Starts.{StartsOf};
 ghost use Rattle.places.specs.Inside.{PlaceIn};
 ghost use Rattle.build.specs.Built.{Ready, Builds};
 ghost use Rattle.initial.specs.Stated.{element_start, part_start, is_part, parts_from, BuildsPart, PartIn, PartsIn};
@@ -16,13 +15,13 @@ use definition::layout::{ELEMENTS, NODE_WORDS, VARIABLES};
 use definition::records::Place;
 use initial::start::initializer;
 use initial::variable::variable_start;
-use places::field::{Found, field_place};
-use records::words::word;
+use places::field::field_place;
+use records::file::File;
+use records::source::Source;
 
 // What an element of a structure's declaration starts with.
 pub fn element_start(
-    file: &[u32],
-    source: &[usize],
+    file: &File<'_>,
     known: &[u32],
     store: &[u32],
     place: Place,
@@ -30,23 +29,22 @@ pub fn element_start(
     room: &mut [u32],
     at: usize,
 ) -> Built
-    requires { Ready file.now source.now known.now store.now × PlaceIn file.now place × (e < Layout.count file.now elements) × (at + element_levels file.now place e * tree_words ≤ length room.old) }
-    ensures { Builds file.now known.now store.now flatten (element_start file.now place e) at room.old result room.new }
+    requires { Ready file.now.source known.now store.now × PlaceIn file.now.source place × (e < Layout.count file.now.source elements) × (at + element_levels file.now.source place e * tree_words ≤ length room.old) }
+    ensures { Builds file.now.source known.now store.now flatten (element_start file.now.source place e) at room.old result room.new }
 {
-    let name = word(file, source, ELEMENTS, e, 0);
-    match field_place(file, source, known, place, name) {
-        Found::Place(inner) => {
-            let i = word(file, source, ELEMENTS, e, 1);
-            initializer(file, source, known, store, inner, i, room, at)
+    let name = file.source.word(ELEMENTS, e, 0);
+    match field_place(file, known, place, name) {
+        Some(inner) => {
+            let i = file.source.word(ELEMENTS, e, 1);
+            initializer(file, known, store, inner, i, room, at)
         }
-        Found::None => Built::None,
+        None => Built::None,
     }
 }
 
 // An element or a variable.
 pub fn part_start(
-    file: &[u32],
-    source: &[usize],
+    file: &File<'_>,
     known: &[u32],
     store: &[u32],
     place: Place,
@@ -55,24 +53,23 @@ pub fn part_start(
     room: &mut [u32],
     at: usize,
 ) -> Built
-    requires { Ready file.now source.now known.now store.now × PlaceIn file.now place × PartIn file.now section k × (at + part_levels file.now place section k * tree_words ≤ length room.old) }
-    ensures { Builds file.now known.now store.now flatten (part_start file.now place section k) at room.old result room.new }
+    requires { Ready file.now.source known.now store.now × PlaceIn file.now.source place × PartIn file.now.source section k × (at + part_levels file.now.source place section k * tree_words ≤ length room.old) }
+    ensures { Builds file.now.source known.now store.now flatten (part_start file.now.source place section k) at room.old result room.new }
 {
     if section == ELEMENTS {
-        return element_start(file, source, known, store, place, k, room, at);
+        return element_start(file, known, store, place, k, room, at);
     }
-    variable_start(file, source, known, store, k, room, at)
+    variable_start(file, known, store, k, room, at)
 }
 
 // Elements are all listed; of the variables inputs, outputs and internal ones.
-fn is_part(file: &[u32], source: &[usize], section: usize, k: u32) -> bool
-    requires { StartsOf file.now source.now }
+fn is_part(file: &Source<'_>, section: usize, k: u32) -> bool
     ensures { result ≡ is_part file.now section k }
 {
     if section == ELEMENTS {
         return true;
     }
-    let kind = word(file, source, VARIABLES, k, 1);
+    let kind = file.word(VARIABLES, k, 1);
     if kind < 2 {
         return true;
     }
@@ -81,8 +78,7 @@ fn is_part(file: &[u32], source: &[usize], section: usize, k: u32) -> bool
 
 // A part at `to`, under the head at `at`.
 fn part_field(
-    file: &[u32],
-    source: &[usize],
+    file: &File<'_>,
     known: &[u32],
     store: &[u32],
     place: Place,
@@ -92,11 +88,11 @@ fn part_field(
     at: usize,
     to: usize,
 ) -> Built
-    requires { Ready file.now source.now known.now store.now × PlaceIn file.now place × PartIn file.now section k × (section < 14) × (at ≤ to) × (to + part_levels file.now place section k * tree_words ≤ length room.old) }
-    ensures { BuildsPart file.now known.now store.now place section k at to room.old result room.new }
+    requires { Ready file.now.source known.now store.now × PlaceIn file.now.source place × PartIn file.now.source section k × (section < 14) × (at ≤ to) × (to + part_levels file.now.source place section k * tree_words ≤ length room.old) }
+    ensures { BuildsPart file.now.source known.now store.now place section k at to room.old result room.new }
 {
-    let name = word(file, source, section, k, 0);
-    let r = part_start(file, source, known, store, place, section, k, room, to);
+    let name = file.source.word(section, k, 0);
+    let r = part_start(file, known, store, place, section, k, room, to);
     let Built::Ends(end) = r else {
         return r;
     };
@@ -105,8 +101,7 @@ fn part_field(
 
 // All parts of a run, under their head.
 pub fn parts(
-    file: &[u32],
-    source: &[usize],
+    file: &File<'_>,
     known: &[u32],
     store: &[u32],
     place: Place,
@@ -116,20 +111,20 @@ pub fn parts(
     room: &mut [u32],
     at: usize,
 ) -> Built
-    requires { Ready file.now source.now known.now store.now × PlaceIn file.now place × PartsIn file.now section first many × (at + parts_levels file.now place section first many * tree_words ≤ length room.old) }
-    ensures { Builds file.now known.now store.now flatten (structured (parts_from file.now place section first many)) at room.old result room.new }
+    requires { Ready file.now.source known.now store.now × PlaceIn file.now.source place × PartsIn file.now.source section first many × (at + parts_levels file.now.source place section first many * tree_words ≤ length room.old) }
+    ensures { Builds file.now.source known.now store.now flatten (structured (parts_from file.now.source place section first many)) at room.old result room.new }
 {
     let mut k = first;
     let mut left = many;
     let mut made: u32 = 0;
     let mut to = at + NODE_WORDS;
     while left > 0 {
-        if !is_part(file, source, section, k) {
+        if !is_part(&file.source, section, k) {
             k += 1;
             left -= 1;
             continue;
         }
-        let r = part_field(file, source, known, store, place, section, k, room, at, to);
+        let r = part_field(file, known, store, place, section, k, room, at, to);
         let Built::Ends(end) = r else {
             return r;
         };

@@ -1,11 +1,6 @@
 -- What the public functions answer and leave in the lent words, on given files: each refusal in its order, and what comes before it (document 01, Refusals).
-use Rattle.std.specs.Prelude.{◌≡◌, refl, List, [], ◌∷◌, ◌++◌, map, ℕ, replicate}
-use Rattle.definition.specs.declared.answers.Acceptance.TheVariants as acceptance
-use Rattle.definition.specs.declared.answers.WorkWords.TheVariants as work_words
-use Rattle.definition.specs.declared.answers.TreeAnswer.TheVariants as tree
-use Rattle.definition.specs.declared.answers.CompletedAnswer.TheVariants as completing
-use Rattle.definition.specs.declared.answers.SheetAnswer.TheVariants as writing
-use Rattle.definition.specs.declared.answers.CheckAnswer.TheVariants as checking
+use Rattle.std.specs.Prelude.{◌≡◌, refl, List, [], ◌∷◌, ◌++◌, map, ℕ, replicate, Some, None, Ok, Err}
+use Rattle.definition.specs.declared.answers.Refusal.TheVariants as refusal
 use Rattle.definition.specs.Answers.{Says, refuses, says, acceptance_says, words_say, tree_says, completed_says, sheet_says, check_says, pass_code, value_code, accept_answer, words_answer, cleared, type_tree_answer, type_tree_out, variable_tree_answer, variable_tree_out, completed_answer, completed_out, write_answer, write_out, pass_answer}
 use Rattle.definition.specs.Computing.{computing}
 use Rattle.definition.specs.ExampleFiles.{file, bool, variable, naming, plain, circle, array_of, opened}
@@ -76,20 +71,20 @@ rows =
     row (pass_answer plain [] 49152) (refuses 11) ∷
     row (pass_answer plain (write_out plain (replicate 29 0) 29 49152) 49152) (says 0 []) ∷
     -- each case of an answer
-    row (acceptance_says acceptance.Accepted) (says 0 []) ∷
-    row (acceptance_says (acceptance.Refused 4)) (refuses 4) ∷
-    row (words_say (work_words.Words 9)) (says 0 (9 ∷ [])) ∷
-    row (words_say (work_words.Refused 4)) (refuses 4) ∷
-    row (tree_says (tree.Tree 9)) (says 0 (9 ∷ [])) ∷
-    row (tree_says tree.None) (says 1 []) ∷
-    row (tree_says (tree.Refused 8)) (refuses 8) ∷
-    row (completed_says (completing.Completed 3 9)) (says 0 (3 ∷ 9 ∷ [])) ∷
-    row (completed_says completing.Left) (says 1 []) ∷
-    row (completed_says (completing.Refused 8)) (refuses 8) ∷
-    row (sheet_says (writing.Written 29)) (says 0 (29 ∷ [])) ∷
-    row (sheet_says (writing.Refused 9)) (refuses 9) ∷
-    row (check_says checking.Passes) (says 0 []) ∷
-    row (check_says (checking.Refused 13)) (refuses 13) ∷
+    row (acceptance_says (Ok tt)) (says 0 []) ∷
+    row (acceptance_says (Err refusal.Points)) (refuses 4) ∷
+    row (words_say (Ok 9)) (says 0 (9 ∷ [])) ∷
+    row (words_say (Err refusal.Points)) (refuses 4) ∷
+    row (tree_says (Ok (Some 9))) (says 0 (9 ∷ [])) ∷
+    row (tree_says (Ok None)) (says 1 []) ∷
+    row (tree_says (Err refusal.Large)) (refuses 8) ∷
+    row (completed_says (Ok (Some (record { kind = 3; nodes = 9 })))) (says 0 (3 ∷ 9 ∷ [])) ∷
+    row (completed_says (Ok None)) (says 1 []) ∷
+    row (completed_says (Err refusal.Large)) (refuses 8) ∷
+    row (sheet_says (Ok 29)) (says 0 (29 ∷ [])) ∷
+    row (sheet_says (Err refusal.Circle)) (refuses 9) ∷
+    row (check_says (Ok tt)) (says 0 []) ∷
+    row (check_says (Err refusal.Lines)) (refuses 13) ∷
     []
 
 answers : map (λ r. r.computed) rows ≡ map (λ r. r.is) rows

@@ -1,18 +1,9 @@
 -- What each public function answers, in document 01's numbers, and what it leaves in the words that it is lent: out holds the answer at its front and keeps the
 -- rest; a refusal, none and left keep all of out; work words always end as 0 (document 01, after the refusals).
-use Rattle.std.specs.Prelude.{Bool, ◌&&◌, List, [], ◌∷◌, ◌++◌, ℕ, ◌+◌, ◌*◌, ◌^◌, min, eqb, leb, ltb, length, drop, replicate}
-use Rattle.definition.specs.declared.answers.Acceptance.{Acceptance}
-use Rattle.definition.specs.declared.answers.Acceptance.TheVariants as acceptance
-use Rattle.definition.specs.declared.answers.WorkWords.{WorkWords}
-use Rattle.definition.specs.declared.answers.WorkWords.TheVariants as work_words
-use Rattle.definition.specs.declared.answers.TreeAnswer.{TreeAnswer}
-use Rattle.definition.specs.declared.answers.TreeAnswer.TheVariants as tree
-use Rattle.definition.specs.declared.answers.CompletedAnswer.{CompletedAnswer}
-use Rattle.definition.specs.declared.answers.CompletedAnswer.TheVariants as completing
-use Rattle.definition.specs.declared.answers.SheetAnswer.{SheetAnswer}
-use Rattle.definition.specs.declared.answers.SheetAnswer.TheVariants as writing
-use Rattle.definition.specs.declared.answers.CheckAnswer.{CheckAnswer}
-use Rattle.definition.specs.declared.answers.CheckAnswer.TheVariants as checking
+use Rattle.std.specs.Prelude.{Bool, ◌&&◌, List, [], ◌∷◌, ◌++◌, ℕ, ◌+◌, ◌*◌, ◌^◌, min, eqb, leb, ltb, length, drop, replicate, Option, Some, None, Result, Ok, Err}
+use Rattle.definition.specs.declared.answers.Refusal.{Refusal}
+use Rattle.definition.specs.declared.answers.Refusal.TheVariants as refusal
+use Rattle.definition.specs.declared.answers.Slot.{Slot}
 use Rattle.definition.specs.Base.{pick, choose}
 use Rattle.definition.specs.Layout.{count, types, variables}
 use Rattle.definition.specs.Accept.{need, verdict}
@@ -29,31 +20,48 @@ pub data Says : Type 0 where
   refuses : ℕ → Says
   says : ℕ → List ℕ → Says
 
-unfoldable pub acceptance_says : Acceptance → Says
-acceptance_says acceptance.Accepted = says 0 []
-acceptance_says (acceptance.Refused n) = refuses n
+-- a refusal's number
+unfoldable pub number_of : Refusal → ℕ
+number_of refusal.Ends = 1
+number_of refusal.Counts = 2
+number_of refusal.Words = 3
+number_of refusal.Points = 4
+number_of refusal.Alike = 5
+number_of refusal.Elements = 6
+number_of refusal.Missing = 7
+number_of refusal.Large = 8
+number_of refusal.Circle = 9
+number_of refusal.Short = 10
+number_of refusal.Sections = 11
+number_of refusal.Ranks = 12
+number_of refusal.Lines = 13
+number_of refusal.NotHeld = 14
+number_of refusal.Wide = 15
 
-unfoldable pub words_say : WorkWords → Says
-words_say (work_words.Words n) = says 0 (n ∷ [])
-words_say (work_words.Refused n) = refuses n
+unfoldable pub acceptance_says : Result (Unit {0}) Refusal → Says
+acceptance_says (Ok u) = says 0 []
+acceptance_says (Err r) = refuses (number_of r)
 
-unfoldable pub tree_says : TreeAnswer → Says
-tree_says (tree.Tree nodes) = says 0 (nodes ∷ [])
-tree_says tree.None = says 1 []
-tree_says (tree.Refused n) = refuses n
+unfoldable pub words_say : Result ℕ Refusal → Says
+words_say (Ok n) = says 0 (n ∷ [])
+words_say (Err r) = refuses (number_of r)
 
-unfoldable pub completed_says : CompletedAnswer → Says
-completed_says (completing.Completed kind nodes) = says 0 (kind ∷ nodes ∷ [])
-completed_says completing.Left = says 1 []
-completed_says (completing.Refused n) = refuses n
+unfoldable pub tree_says : Result (Option ℕ) Refusal → Says
+tree_says (Ok (Some nodes)) = says 0 (nodes ∷ [])
+tree_says (Ok None) = says 1 []
+tree_says (Err r) = refuses (number_of r)
 
-unfoldable pub sheet_says : SheetAnswer → Says
-sheet_says (writing.Written words) = says 0 (words ∷ [])
-sheet_says (writing.Refused n) = refuses n
+unfoldable pub completed_says : Result (Option Slot) Refusal → Says
+completed_says (Ok (Some slot)) = says 0 (slot.kind ∷ slot.nodes ∷ [])
+completed_says (Ok None) = says 1 []
+completed_says (Err r) = refuses (number_of r)
 
-unfoldable pub check_says : CheckAnswer → Says
-check_says checking.Passes = says 0 []
-check_says (checking.Refused n) = refuses n
+-- a sheet's number of words
+abbrev pub sheet_says : Result ℕ Refusal → Says
+sheet_says = words_say
+
+abbrev pub check_says : Result (Unit {0}) Refusal → Says
+check_says = acceptance_says
 
 -- ---- the same as a number, for C
 -- of a function that only passes or refuses: 0, or the refusal's number
@@ -193,5 +201,5 @@ pass_answer f sheet room = answered (check_refused f sheet room) refuses (λ u. 
 
 -- what this file computes with
 unfoldable pub opened : Unit {0}
-unfolding acceptance_says words_say tree_says completed_says sheet_says check_says pass_code packed value_code accept_answer line_words room_words words_answer cleared enough refused_tree over tree_answer tree_out type_refused type_tree_answer type_tree_out variable_refused variable_tree_answer variable_tree_out slot_answer completion_answer slot_out completed_answer completed_out enough_sheet write_refused written_answer ranked_answer ranked_out write_answer write_out check_refused pass_answer
+unfolding number_of acceptance_says words_say tree_says completed_says pass_code packed value_code accept_answer line_words room_words words_answer cleared enough refused_tree over tree_answer tree_out type_refused type_tree_answer type_tree_out variable_refused variable_tree_answer variable_tree_out slot_answer completion_answer slot_out completed_answer completed_out enough_sheet write_refused written_answer ranked_answer ranked_out write_answer write_out check_refused pass_answer
 opened = tt

@@ -1,5 +1,5 @@
 -- What a type, an initializer or a member list means: a computation that may ask for the default of another type. It knows nothing of order, memory or circles.
-use Rattle.std.specs.Prelude.{ℕ, suc, ◌+◌, leb}
+use Rattle.std.specs.Prelude.{Option, Some, None, ℕ, suc, ◌+◌, leb}
 use Rattle.definition.specs.Base.{choose}
 use Rattle.definition.specs.Tree.{Tree, Trees, many, nodes, nodes_in, join, most_nodes}
 
@@ -8,6 +8,11 @@ pub data Result (A : Type 0) : Type 0 where
   ok : A → Result A
   none : Result A
   large : Result A
+
+-- what an `Option` of the code stands for
+abbrev pub result_of : {A : Type 0} → Option A → Result A
+result_of (Some a) = ok a
+result_of None = none
 
 abbrev pub Outcome : Type 0
 Outcome = Result Tree

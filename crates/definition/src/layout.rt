@@ -56,10 +56,7 @@ const MOST_RECORDS: [usize; 14] = [
 fn of_section(table: &[usize], section: usize) -> usize
     ensures { result ≡ get_or table.now section 0 }
 {
-    if section < table.len() {
-        return table[section];
-    }
-    0
+    table.get(section).copied().unwrap_or(0)
 }
 
 // How many words a record of a section has.

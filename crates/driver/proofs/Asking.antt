@@ -19,8 +19,6 @@ use Rattle.definition.specs.Answers.{cleared}
 use Rattle.definition.specs.Resolve as Resolve
 use Rattle.definition.specs.Resolve.{Look, known, unknown, on_look, Memo, at, empty, Ran, Resolver, run, resolve, asking, declared_below, resolve_all}
 use Rattle.laws.specs.Memo.{empty-long}
-use Rattle.lines.specs.declared.append.Stored.{Stored}
-use Rattle.lines.specs.declared.append.Stored.TheVariants.{Ends, Full}
 use Rattle.lines.specs.Append.{most_words}
 use Rattle.lines.proofs.Memories.{remembers-empty}
 use Rattle.build.specs.Built.{index_at, index_in}
@@ -30,6 +28,7 @@ use Rattle.driver.proofs.Tabling.{index-long, front_same}
 use Rattle.driver.proofs.Widths.{run-width, spent-empty}
 use Rattle.driver.proofs.Holdings.{fresh-unknown, unknown-fresh}
 use Rattle.driver.proofs.Settling.{given-kept}
+use Rattle.std.specs.Prelude.{None, Option, Some}
 
 -- ---- a type that is asked for
 module _ (f : List ℕ) (M : Memo) (t : ℕ) where
@@ -113,7 +112,7 @@ module _ (f : List ℕ) where
   declared-width (suc k) t = rw suc-add (rw (declared-next (k + t)) (omega (arith, declared-width k t, declared-step-width f (declared_memo f (k + t)) (k + t))))
 
 -- ---- `ask_type`
-module _ {f source known : List ℕ} {room : ℕ} (g : Given f source known room) where
+module _ {f known : List ℕ} {room : ℕ} (g : Given f known room) where
   pub word-inside : (t : ℕ) → t < count f types → index_at + t < length known
   word-inside t l = omega (arith, g.tables)
 
@@ -125,11 +124,11 @@ module _ {f index store : List ℕ} {end t : ℕ} (h : Held f index store end) (
     pub held-fresh : b ≡ true → Fresh f index store end t
     held-fresh e = record { held = h; inside = l; word = eqb-true (get_or index t 0) 0 (sym q ∙ e) }
 
-    pub recalls-new : b ≡ true → {r : Stored} {index' store' : List ℕ} → Resolves f t index store end r index' store' → Recalls f t index store end r index' store'
+    pub recalls-new : b ≡ true → {r : Option ℕ} {index' store' : List ℕ} → Resolves f t index store end r index' store' → Recalls f t index store end r index' store'
     recalls-new e s =
         record { gives = λ M x. rw (asked-unknown f M t (fresh-unknown x t l (eqb-true (get_or index t 0) 0 (sym q ∙ e)))) (s.gives M x) }
 
-    pub recalls-old : b ≡ false → Recalls f t index store end (Ends end) index store
+    pub recalls-old : b ≡ false → Recalls f t index store end (Some end) index store
     recalls-old e = record { gives = λ M x. go M x (at M t) refl }
       where
         go : (M : Memo) → Holding f index store end M → (w : Look) → at M t ≡ w → Holding f index store end (asked f M t)
@@ -138,10 +137,10 @@ module _ {f index store : List ℕ} {end t : ℕ} (h : Held f index store end) (
 
 -- ---- `ask_declared`
 module _ {f : List ℕ} {t : ℕ} {b : Bool} (q : b ≡ eqb (declaration_kind f t) 0) where
-  pub declared-not : b ≡ true → {index store : List ℕ} {end : ℕ} → RecallsDeclared f t index store end (Ends end) index store
+  pub declared-not : b ≡ true → {index store : List ℕ} {end : ℕ} → RecallsDeclared f t index store end (Some end) index store
   declared-not e = record { gives = λ M x. rw (declared-skips f M t (sym q ∙ e)) x }
 
-  pub declared-new : b ≡ false → {index store : List ℕ} {end : ℕ} {r : Stored} {index' store' : List ℕ} → Recalls f t index store end r index' store' → RecallsDeclared f t index store end r index' store'
+  pub declared-new : b ≡ false → {index store : List ℕ} {end : ℕ} {r : Option ℕ} {index' store' : List ℕ} → Recalls f t index store end r index' store' → RecallsDeclared f t index store end r index' store'
   declared-new e s = record { gives = λ M x. rw (declared-asks f M t (sym q ∙ e)) (s.gives M x) }
 
 pub ruleset asks = (rules, front_same, word-inside, held-fresh, recalls-new, recalls-old, declared-not, declared-new)
@@ -158,21 +157,21 @@ module _ {f index store : List ℕ} {end t : ℕ} (x : Declaring f index store e
   pub declaring-held : Held f index store end
   declaring-held = record { memo = declared_memo f t; holding = x.holding }
 
-  pub declaring-done : {n : ℕ} → n ≡ count f types → n ≤ t → Declares f (Ends end) index store
+  pub declaring-done : {n : ℕ} → n ≡ count f types → n ≤ t → Declares f (Some end) index store
   declaring-done e h = let k : t ≡ count f types = omega (arith, x.most) in record { after = rw (declared-all f) at (subst (λ (n : ℕ). Holding f index store end (declared_memo f n)) k x.holding) }
 
-  module _ (l : t < count f types) {r : Stored} {index' store' : List ℕ} (s : RecallsDeclared f t index store end r index' store') where
-    pub declaring-next : {e : ℕ} → r ≡ Ends e → Declaring f index' store' e (t + 1)
+  module _ (l : t < count f types) {r : Option ℕ} {index' store' : List ℕ} (s : RecallsDeclared f t index store end r index' store') where
+    pub declaring-next : {e : ℕ} → r ≡ Some e → Declaring f index' store' e (t + 1)
     declaring-next i =
         record {
-          holding = rw (add-one t, declared-next f t) (subst (λ (a : Stored). After f a index' store' (asked_declared f (declared_memo f t) t)) i (s.gives (declared_memo f t) x.holding));
+          holding = rw (add-one t, declared-next f t) (subst (λ (a : Option ℕ). After f a index' store' (asked_declared f (declared_memo f t) t)) i (s.gives (declared_memo f t) x.holding));
           most = omega arith;
         }
 
-    pub declaring-full : r ≡ Full → Declares f r index' store'
+    pub declaring-full : r ≡ None → Declares f r index' store'
     declaring-full i =
-        let g : min (length store') most_words < width (asked_declared f (declared_memo f t) t) = subst (λ (a : Stored). After f a index' store' (asked_declared f (declared_memo f t) t)) i (s.gives (declared_memo f t) x.holding) in
-        record { after = subst (λ (a : Stored). After f a index' store' (remembered f)) (sym i) (most g) }
+        let g : min (length store') most_words < width (asked_declared f (declared_memo f t) t) = subst (λ (a : Option ℕ). After f a index' store' (asked_declared f (declared_memo f t) t)) i (s.gives (declared_memo f t) x.holding) in
+        record { after = subst (λ (a : Option ℕ). After f a index' store' (remembered f)) (sym i) (most g) }
       where
         most : min (length store') most_words < width (asked_declared f (declared_memo f t) t) → min (length store') most_words < width (remembered f)
         most g =

@@ -20,14 +20,13 @@ use Rattle.laws.specs.Falling.{any-body}
 use Rattle.laws.specs.Memo.{known-unknown, put-long, at_lt, at-past, unknowns-length}
 use Rattle.laws.specs.Resolving.{resolve-step, resolve-more, grown}
 use Rattle.laws.specs.Peeking.{finish, restart}
-use Rattle.lines.specs.declared.append.Stored.{Stored}
-use Rattle.lines.specs.declared.append.Stored.TheVariants.{Ends, Full}
 use Rattle.lines.specs.Append.{most_words, Appends}
 use Rattle.lines.specs.Memory.{Holds, Remembers}
 use Rattle.lines.proofs.Memories.{remembers-begin, remembers-wider, remembers-small}
 use Rattle.build.specs.Built.{index_in, Memory}
 use Rattle.driver.specs.Driver.{look_words, width, spent, zeros, Holding, ran, settled, resolved, After}
 use Rattle.driver.proofs.Widths.{spent-width, none-width, run-width, spent-begin, spent-line, zeros-keep}
+use Rattle.std.specs.Prelude.{None, Option, Some}
 
 -- ---- what a word of the index says
 one_none : (w : ℕ) (store : List ℕ) (end : ℕ) (l : Look) → Holds w store end l → w ≡ 1 → l ≡ known none
@@ -119,7 +118,7 @@ module _ (f : List ℕ) (M : Memo) where
   resolved-old d e o u k = (resolve-more (body f) (count f types) M d u).old e o k
 
 -- ---- a line that is appended
-module _ {test : Bool} {src : List ℕ} {n : ℕ} {index store : List ℕ} {end t : ℕ} {r : Stored} {index' store' : List ℕ} where
+module _ {test : Bool} {src : List ℕ} {n : ℕ} {index store : List ℕ} {end t : ℕ} {r : Option ℕ} {index' store' : List ℕ} where
   pub appends-old : Appends test src n index store end t r index' store' → (s w : ℕ) → (s ≡ t → ⊥) → get_or index s 0 ≡ suc w → get_or index' s 0 ≡ suc w
   appends-old q s w k e = go test q.marks
     where
@@ -137,18 +136,18 @@ module _ {test : Bool} {src : List ℕ} {n : ℕ} {index store : List ℕ} {end 
   -- what is held then
   pub appends-after : {f : List ℕ} {M : Memo} → Holding f index store end M → t < count f types → get_or index t 0 ≡ 1 → (o : Outcome) → look_words (known o) ≡ n
       → Appends test src n index store end t r index' store'
-      → ((e : ℕ) → r ≡ Ends e → Remembers index' store' e (put M t o))
-      → (r ≡ Full → min (length store) most_words < end + n)
+      → ((e : ℕ) → r ≡ Some e → Remembers index' store' e (put M t o))
+      → (r ≡ None → min (length store) most_words < end + n)
       → After f r index' store' (put M t o)
   appends-after {f} {M} x l w o c q rem full = go test r refl q.says q.marks q.writes
     where
       spends : spent (put M t o) (set index t (end + 2)) ≡ end + n
       spends = omega (arith, spent-line M index t end o w (omega (arith, x.all)) x.remembers.wide, x.spends, c)
 
-      go : (b : Bool) (a : Stored) → r ≡ a → r ≡ pick b (Ends (end + n)) Full → index' ≡ pick b (set index t (end + 2)) index → store' ≡ pick b (paste store end src n) store → After f a index' store' (put M t o)
-      go true (Ends e) i s m z =
+      go : (b : Bool) (a : Option ℕ) → r ≡ a → r ≡ pick b (Some (end + n)) None → index' ≡ pick b (set index t (end + 2)) index → store' ≡ pick b (paste store end src n) store → After f a index' store' (put M t o)
+      go true (Some e) i s m z =
           let k : e ≡ end + n = cc in
           record { remembers = rem e i; all = put-long M t o ∙ x.all; spends = rw (m, k) (sym spends) }
-      go true Full i s m z = let y : ◌≡◌ {A = ℕ} 0 1 = cc in absurd (omega arith)
-      go false (Ends e) i s m z = let y : ◌≡◌ {A = ℕ} 0 1 = cc in absurd (omega arith)
-      go false Full i s m z = rw z (omega (arith, full i, spends, spent-width (put M t o) (set index t (end + 2))))
+      go true None i s m z = let y : ◌≡◌ {A = ℕ} 0 1 = cc in absurd (omega arith)
+      go false (Some e) i s m z = let y : ◌≡◌ {A = ℕ} 0 1 = cc in absurd (omega arith)
+      go false None i s m z = rw z (omega (arith, full i, spends, spent-width (put M t o) (set index t (end + 2))))

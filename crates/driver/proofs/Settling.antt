@@ -16,8 +16,6 @@ use Rattle.definition.specs.Peek.{Peek, got, wants, peek}
 use Rattle.laws.specs.Whole.{flatten-length}
 use Rattle.laws.specs.Peeking.{peek-unknown}
 use Rattle.tree.specs.Words.{Stand}
-use Rattle.lines.specs.declared.append.Stored.{Stored}
-use Rattle.lines.specs.declared.append.Stored.TheVariants.{Ends, Full}
 use Rattle.lines.specs.Append.{most_words, AppendsState, AppendsTree}
 use Rattle.lines.proofs.Memories.{remembers-none, remembers-large, remembers-tree, full-state, full-tree}
 use Rattle.build.specs.declared.built.Built.{Built}
@@ -29,9 +27,10 @@ use Rattle.driver.specs.Driver.{width, zeros, Holding, settled, resolved, After,
 use Rattle.driver.proofs.Tabling.{front-classes, front-then, back-front, back_index}
 use Rattle.driver.proofs.Widths.{line-none, line-large, line-tree, zeros-less}
 use Rattle.driver.proofs.Holdings.{busy-none, fresh-unknown, unknown-fresh, unknown-inside, to-memory, holding-begin, body-small, settled-got, settled-again, resolved-is, settled-width, resolved-old, appends-old, appends-fewer, appends-after}
+use Rattle.std.specs.Prelude.{None, Option, Some}
 
 -- ---- append
-module _ {b : Built} {room index store : List ℕ} {end t : ℕ} {r : Stored} {index' store' : List ℕ} where
+module _ {b : Built} {room index store : List ℕ} {end t : ℕ} {r : Option ℕ} {index' store' : List ℕ} where
   pub stores-ends : {e : ℕ} → b ≡ built.Ends e → AppendsTree room 0 (e / 6) index store end t r index' store' → Stores b room index store end t r index' store'
   stores-ends q h = record { appends = rw q h }
 
@@ -41,7 +40,7 @@ module _ {b : Built} {room index store : List ℕ} {end t : ℕ} {r : Stored} {i
   pub stores-large : b ≡ built.TooLarge → AppendsState 2 index store end t r index' store' → Stores b room index store end t r index' store'
   stores-large q h = record { appends = rw q h }
 
-pub stores-wanted : {room index store : List ℕ} {end t : ℕ} {r : Stored} {index' store' : List ℕ} (b : Built) → tag_of the_type b ≡ 3 → Stores b room index store end t r index' store'
+pub stores-wanted : {room index store : List ℕ} {end t : ℕ} {r : Option ℕ} {index' store' : List ℕ} (b : Built) → tag_of the_type b ≡ 3 → Stores b room index store end t r index' store'
 stores-wanted (built.Ends e) q = absurd (omega arith)
 stores-wanted built.None q = absurd (omega arith)
 stores-wanted built.TooLarge q = absurd (omega arith)
@@ -49,7 +48,7 @@ stores-wanted (built.Wanted d) q = record { appends = tt }
 
 -- the index is put back
 pub stores_back : (tables : List ℕ) → index_at ≤ length tables → (part : List ℕ) → length part ≡ length (index_in tables)
-    → {b : Built} {room store : List ℕ} {end t : ℕ} {r : Stored} {store' : List ℕ} → Stores b room (index_in tables) store end t r part store'
+    → {b : Built} {room store : List ℕ} {end t : ℕ} {r : Option ℕ} {store' : List ℕ} → Stores b room (index_in tables) store end t r part store'
     → Stores b room (index_in tables) store end t r (index_in (put_mid index_at (length tables - index_at) tables part)) store'
 stores_back tables h part l {b} {room} {store} {end} {t} {r} {store'} s = subst (λ (i : List ℕ). Stores b room (index_in tables) store end t r i store') (sym (back_index tables h part l)) s
 
@@ -58,22 +57,18 @@ pub ruleset putting-back = (rules, back-front, stores_back)
 pub ruleset appending = (rules, stores-ends, stores-none, stores-large, stores-wanted)
 
 -- ---- what is handed on
-pub given-kept : {f source known : List ℕ} {n : ℕ} → Given f source known n → {known' : List ℕ} → Front known known' → (m : ℕ) → m ≡ n → Given f source known' m
+pub given-kept : {f known : List ℕ} {n : ℕ} → Given f known n → {known' : List ℕ} → Front known known' → (m : ℕ) → m ≡ n → Given f known' m
 given-kept g p m e =
     record {
-      starts = g.starts;
-      declared = g.declared;
       accepted = g.accepted;
       classed = front-classes g.accepted g.classed p;
       tables = omega (arith, g.tables, p.long);
       roomy = omega (arith, g.roomy);
     }
 
-pub to-ready : {f source known : List ℕ} {room : ℕ} {store : List ℕ} {end : ℕ} → Given f source known room → Held f (index_in known) store end → Ready f source known store
+pub to-ready : {f known : List ℕ} {room : ℕ} {store : List ℕ} {end : ℕ} → Given f known room → Held f (index_in known) store end → Ready f known store
 to-ready g h =
     record {
-      starts = g.starts;
-      declared = g.declared;
       accepted = g.accepted;
       classed = g.classed;
       tables = omega (arith, g.tables);
@@ -96,7 +91,7 @@ gives-wants {d} (wants e) h q = let s = h.says in let i : e ≡ d = cc in ap wan
 
 -- ---- the line of t
 module _ {f tables store : List ℕ} {end t : ℕ} (b : Begun f (index_in tables) store end t) {room room' : List ℕ} {made : Built} (h : Builds f tables store flatten (body f t) 0 room made room')
-    (n : NoWant made) {r : Stored} {index' store' : List ℕ} (s : Stores made room' (index_in tables) store end t r index' store') where
+    (n : NoWant made) {r : Option ℕ} {index' store' : List ℕ} (s : Stores made room' (index_in tables) store end t r index' store') where
   line_after : (M : Memo) → Holding f (index_in tables) store end M → (p : Peek Outcome) → peek M (body f t) ≡ p → Gives flatten p 0 made room' → After f r index' store' (settled f M t)
   line_after M x (got (ok tree)) e g =
       let l : (0 + length (flatten tree)) / 6 ≡ nodes tree = omega (arith, flatten-length tree) in
@@ -156,7 +151,7 @@ module _ {f index store : List ℕ} {end t : ℕ} (b : Fresh f index store end t
   pub fresh-less : zeros (set index t 1) < zeros index
   fresh-less = zeros-less index t 0 fresh-long b.word
 
-  module _ {index' : List ℕ} (i : index' ≡ set index t 1) {r : Stored} {index'' store'' : List ℕ} (s : Settles f t index' store end r index'' store'') where
+  module _ {index' : List ℕ} (i : index' ≡ set index t 1) {r : Option ℕ} {index'' store'' : List ℕ} (s : Settles f t index' store end r index'' store'') where
     pub resolves-fresh : Resolves f t index store end r index'' store''
     resolves-fresh =
         record {
@@ -181,33 +176,33 @@ module _ {f tables store : List ℕ} {end t : ℕ} (b : Begun f (index_in tables
       let u = unknown-then b.held.memo x in
       record { held = b.held; inside = unknown-inside x d u; word = unknown-fresh x d u }
 
-  module _ {r : Stored} {index' store' : List ℕ} (s : Resolves f d (index_in tables) store end r index' store') where
-    pub again-begun : {e : ℕ} → r ≡ Ends e → Begun f index' store' e t
+  module _ {r : Option ℕ} {index' store' : List ℕ} (s : Resolves f d (index_in tables) store end r index' store') where
+    pub again-begun : {e : ℕ} → r ≡ Some e → Begun f index' store' e t
     again-begun {e} i =
         record {
-          held = record { memo = resolved f b.held.memo d; holding = subst (λ (a : Stored). After f a index' store' (resolved f b.held.memo d)) i (s.gives b.held.memo b.held.holding) };
+          held = record { memo = resolved f b.held.memo d; holding = subst (λ (a : Option ℕ). After f a index' store' (resolved f b.held.memo d)) i (s.gives b.held.memo b.held.holding) };
           inside = b.inside;
           word = s.old t 0 b.word;
         }
 
-    pub settles-full : r ≡ Full → Settles f t (index_in tables) store end r index' store'
+    pub settles-full : r ≡ None → Settles f t (index_in tables) store end r index' store'
     settles-full i =
         record {
           gives = λ M x.
               let u = unknown-then M x in
-              let g : min (length store') most_words < width (resolved f M d) = subst (λ (a : Stored). After f a index' store' (resolved f M d)) i (s.gives M x) in
+              let g : min (length store') most_words < width (resolved f M d) = subst (λ (a : Option ℕ). After f a index' store' (resolved f M d)) i (s.gives M x) in
               let k : at (resolved f M d) t ≡ known none = resolved-old f M d t none u (busy-none x t b.inside b.word) in
-              subst (λ (a : Stored). After f a index' store' (settled f M t)) (sym i) (rw (settled-again f M t d (wants-then M x)) (omega (arith, settled-width f (resolved f M d) t k)));
+              subst (λ (a : Option ℕ). After f a index' store' (settled f M t)) (sym i) (rw (settled-again f M t d (wants-then M x)) (omega (arith, settled-width f (resolved f M d) t k)));
           old = λ o w k z. s.old o w z;
           fewer = omega (arith, s.fewer);
         }
 
-    module _ {e : ℕ} (i : r ≡ Ends e) {r' : Stored} {index'' store'' : List ℕ} (y : Settles f t index' store' e r' index'' store'') where
+    module _ {e : ℕ} (i : r ≡ Some e) {r' : Option ℕ} {index'' store'' : List ℕ} (y : Settles f t index' store' e r' index'' store'') where
       pub settles-again : Settles f t (index_in tables) store end r' index'' store''
       settles-again =
           record {
             gives = λ M x.
-                let g : Holding f index' store' e (resolved f M d) = subst (λ (a : Stored). After f a index' store' (resolved f M d)) i (s.gives M x) in
+                let g : Holding f index' store' e (resolved f M d) = subst (λ (a : Option ℕ). After f a index' store' (resolved f M d)) i (s.gives M x) in
                 rw (settled-again f M t d (wants-then M x)) (y.gives (resolved f M d) g);
             old = λ o w k z. y.old o w k (s.old o w z);
             fewer = omega (arith, s.fewer, y.fewer);
@@ -220,13 +215,13 @@ begin-word b i = rw i (fresh-begun b)
 pub begin-less : {f index store : List ℕ} {end t : ℕ} → Fresh f index store end t → {index' : List ℕ} → index' ≡ set index t 1 → {n : ℕ} → zeros index ≡ n → zeros index' < n
 begin-less {index} {t} b {index'} i q = let k : zeros index' ≡ zeros (set index t 1) = ap zeros i in omega (arith, fresh-less b)
 
-pub again-less : {f : List ℕ} {d : ℕ} {index store : List ℕ} {end : ℕ} {r : Stored} {index' store' : List ℕ} → Resolves f d index store end r index' store' → {n : ℕ} → zeros index ≡ n → zeros index' < n
+pub again-less : {f : List ℕ} {d : ℕ} {index store : List ℕ} {end : ℕ} {r : Option ℕ} {index' store' : List ℕ} → Resolves f d index store end r index' store' → {n : ℕ} → zeros index ≡ n → zeros index' < n
 again-less v q = omega (arith, v.fewer)
 
 -- ---- the work of t so far: what settles t from here settles it from the start
 pub record Goes (f : List ℕ) (t : ℕ) (index₀ store₀ : List ℕ) (end₀ : ℕ) (index store : List ℕ) (end : ℕ) : Type 0 where
   pub begun : Begun f index store end t
-  pub back : (r : Stored) (index' store' : List ℕ) → Settles f t index store end r index' store' → Settles f t index₀ store₀ end₀ r index' store'
+  pub back : (r : Option ℕ) (index' store' : List ℕ) → Settles f t index store end r index' store' → Settles f t index₀ store₀ end₀ r index' store'
   pub fewer : zeros index ≤ zeros index₀
 
 pub goes-start : {f : List ℕ} {t : ℕ} {index store : List ℕ} {end : ℕ} → Begun f index store end t → Goes f t index store end index store end
@@ -234,18 +229,18 @@ goes-start b = record { begun = b; back = λ r i s h. h; fewer = omega arith }
 
 module _ {f : List ℕ} {t : ℕ} {index₀ store₀ : List ℕ} {end₀ : ℕ} {tables store : List ℕ} {end : ℕ} (x : Goes f t index₀ store₀ end₀ (index_in tables) store end)
     {room room' : List ℕ} {made : Built} (h : Builds f tables store flatten (body f t) 0 room made room') where
-  pub goes-line : NoWant made → {r : Stored} {index' store' : List ℕ} → Stores made room' (index_in tables) store end t r index' store' → Settles f t index₀ store₀ end₀ r index' store'
+  pub goes-line : NoWant made → {r : Option ℕ} {index' store' : List ℕ} → Stores made room' (index_in tables) store end t r index' store' → Settles f t index₀ store₀ end₀ r index' store'
   goes-line n {r} {index'} {store'} s = x.back r index' store' (settles-line x.begun h n s)
 
   module _ {d : ℕ} (q : made ≡ built.Wanted d) where
     pub goes-fresh : Fresh f (index_in tables) store end d
     goes-fresh = wanted-fresh x.begun h q
 
-    module _ {r : Stored} {index' store' : List ℕ} (s : Resolves f d (index_in tables) store end r index' store') where
-      pub goes-full : r ≡ Full → Settles f t index₀ store₀ end₀ r index' store'
+    module _ {r : Option ℕ} {index' store' : List ℕ} (s : Resolves f d (index_in tables) store end r index' store') where
+      pub goes-full : r ≡ None → Settles f t index₀ store₀ end₀ r index' store'
       goes-full i = x.back r index' store' (settles-full x.begun h q s i)
 
-      pub goes-next : {e : ℕ} → r ≡ Ends e → Goes f t index₀ store₀ end₀ index' store' e
+      pub goes-next : {e : ℕ} → r ≡ Some e → Goes f t index₀ store₀ end₀ index' store' e
       goes-next i =
           record {
             begun = again-begun x.begun h q s i;

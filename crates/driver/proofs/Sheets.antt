@@ -1,5 +1,5 @@
 -- What the sheet writer gets of every type, in an accepted file with ranks that rise along every use: each type's line, each variable's outcome with nothing left to
--- resolve, and `Full` only where the sheet is longer than out. Assumes nothing.
+-- resolve, and `None` only where the sheet is longer than out. Assumes nothing.
 use mathlib.Core.Path.{◌≡◌, refl, ap, sym, subst, ◌∙◌}
 use mathlib.Core.Bool.{true}
 use mathlib.Core.List.{List, [], ◌∷◌}
@@ -29,8 +29,6 @@ use Rattle.laws.specs.Peeking.{peek-look}
 use Rattle.laws.specs.Falling.{declaration-asks}
 use Rattle.laws.specs.Sizes.{type-small}
 use Rattle.laws.specs.Demand.{falls}
-use Rattle.lines.specs.declared.append.Stored.{Stored}
-use Rattle.lines.specs.declared.append.Stored.TheVariants.{Ends, Full}
 use Rattle.lines.specs.Append.{most_words}
 use Rattle.build.specs.declared.built.Built.{Built}
 use Rattle.build.specs.Built.{index_in, Builds}
@@ -42,6 +40,7 @@ use Rattle.driver.proofs.Widths.{line-most}
 use Rattle.driver.proofs.Holdings.{to-memory}
 use Rattle.driver.proofs.Asking.{asked-known, asked-unknown, asked-run}
 use Rattle.driver.proofs.Types.{every-next}
+use Rattle.std.specs.Prelude.{None, Option, Some}
 
 -- ---- every type is known then
 module _ (f : List ℕ) where
@@ -109,20 +108,20 @@ module _ (f : List ℕ) (e : verdict f ≡ 0) (rank : ℕ → ℕ) (up : rising 
       width-lines rank (type_outcome f) M 0 (λ t l. every-is t (omega arith) ∙ ap (λ (k : ℕ). known (type_outcome f k)) (sym (zero-add t)))
       ∙ ap (λ (k : ℕ). length (lines_from (λ t. rank t ∷ outcome_words (type_outcome f t)) 0 k)) n
 
-  module _ {r : Stored} {index store : List ℕ} (d : ResolvesAll f r index store) where
+  module _ {r : Option ℕ} {index store : List ℕ} (d : ResolvesAll f r index store) where
     -- a store that is full, of the words that the sheet writer asks for, is shorter than the sheet, and so is out
-    pub sheet-longer : r ≡ Full → (out : ℕ) → min out (line_words f) ≤ length store → out < length (sheet_with f rank)
+    pub sheet-longer : r ≡ None → (out : ℕ) → min out (line_words f) ≤ length store → out < length (sheet_with f rank)
     unfolding sheet_with line_words type_line
     sheet-longer i out h =
-        let g : min (length store) most_words < width (every_memo f (count f types)) = subst (λ (a : Stored). After f a index store (every_memo f (count f types))) i d.after in
+        let g : min (length store) most_words < width (every_memo f (count f types)) = subst (λ (a : Option ℕ). After f a index store (every_memo f (count f types))) i d.after in
         let m = lines-most rank (type_outcome f) (λ t. type-small f t) 0 (count f types) in
         simp length-append (omega (arith, every-lines, few-types f (accepted f e)))
 
-    pub every-holding : {end : ℕ} → r ≡ Ends end → Holding f index store end (every_memo f (count f types))
-    every-holding i = subst (λ (a : Stored). After f a index store (every_memo f (count f types))) i d.after
+    pub every-holding : {end : ℕ} → r ≡ Some end → Holding f index store end (every_memo f (count f types))
+    every-holding i = subst (λ (a : Option ℕ). After f a index store (every_memo f (count f types))) i d.after
 
   -- a variable wants nothing then
-  pub variable-told : {r : Stored} {tables store : List ℕ} → ResolvesAll f r (index_in tables) store → {end : ℕ} → r ≡ Ends end → (v : ℕ) → v < count f variables
+  pub variable-told : {r : Option ℕ} {tables store : List ℕ} → ResolvesAll f r (index_in tables) store → {end : ℕ} → r ≡ Some end → (v : ℕ) → v < count f variables
       → {old new : List ℕ} {made : Built} → Builds f tables store flatten (declaration f v) 0 old made new → Tells (variable_outcome f v) made new
   variable-told d i v l b =
       let M : Memo = every_memo f (count f types) in

@@ -11,19 +11,15 @@ use borrow.Rule.Slice.PartMut.{put_mid, same_len_mid, take_put, mid_len}
 use Rattle.definition.specs.Answers.{room_words}
 use Rattle.laws.specs.Accepted.{Accepted, few-types}
 use Rattle.laws.specs.Depths.{few-shapes}
-use Rattle.records.specs.Starts.{StartsOf, DeclaredIn}
 use Rattle.shapes.specs.Classes.{classes_of, Classes, classes-at}
 use Rattle.build.specs.Built.{index_at, index_in}
 use Rattle.driver.specs.Tables.{Front, Marks}
 use Rattle.driver.specs.Driver.{Given}
 
 -- what a caller hands on that has the shape classes in so many words as `KNOWN_WORDS` says
-pub tables-given : {f : List ℕ} {room : ℕ} → Accepted f → room_words f ≤ room → {source : List ℕ} → StartsOf f source → DeclaredIn f source
-    → (words : List ℕ) {known : List ℕ} → known ≡ classes_of f ++ words → length known ≡ 2048 → Given f source known room
-tables-given {f} a r s d words c l =
+pub tables-given : {f : List ℕ} {room : ℕ} → Accepted f → room_words f ≤ room → (words : List ℕ) {known : List ℕ} → known ≡ classes_of f ++ words → length known ≡ 2048 → Given f known room
+tables-given {f} a r words c l =
     record {
-      starts = s;
-      declared = d;
       accepted = a;
       classed = rw c (classes-at f words);
       tables = omega (arith, few-types f a);

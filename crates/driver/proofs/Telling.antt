@@ -24,8 +24,6 @@ use Rattle.laws.specs.Outcomes.{remembered-held}
 use Rattle.laws.specs.Resolving.{resolve-there}
 use Rattle.laws.specs.Peeking.{peek-unknown, finish, restart}
 use Rattle.laws.specs.Steps.{peek-known}
-use Rattle.lines.specs.declared.append.Stored.{Stored}
-use Rattle.lines.specs.declared.append.Stored.TheVariants.{Ends, Full}
 use Rattle.lines.specs.Append.{most_words}
 use Rattle.build.specs.declared.built.Built.{Built}
 use Rattle.build.specs.declared.built.Built.TheVariants as built
@@ -37,6 +35,7 @@ use Rattle.driver.proofs.Widths.{width-most}
 use Rattle.driver.proofs.Holdings.{unknown-fresh, unknown-inside, to-memory, holding-small}
 use Rattle.driver.proofs.Settling.{given-kept, to-ready, gives-wants, NoWant, wanted-not}
 use Rattle.driver.proofs.Asking.{asked-run}
+use Rattle.std.specs.Prelude.{None, Option, Some}
 
 -- ---- there is room for every line
 abbrev Smalls : List ℕ → Memo → Type 0
@@ -61,13 +60,13 @@ asked-smalls f M t h =
 remembered-smalls : (f : List ℕ) → Smalls f (remembered f)
 remembered-smalls f = remembered-held f (λ d o. OnOk Small o) (λ d. tt) (λ d l. any-body f d)
 
-never-full : {X : Type 0} {f source known : List ℕ} {room n : ℕ} → Given f source known room → Ample f n → (store : List ℕ) → length store ≡ n → (N : Memo) → Smalls f N
+never-full : {X : Type 0} {f known : List ℕ} {room n : ℕ} → Given f known room → Ample f n → (store : List ℕ) → length store ≡ n → (N : Memo) → Smalls f N
     → min (length store) most_words < width N → X
 unfolding line_words
 never-full {f} g a store e N s h = absurd (omega (arith, a.lines, few-types f g.accepted, smalls-width f N s))
 
 -- ---- room for a tree
-pub room-tree : {f source known : List ℕ} {room : ℕ} → Given f source known room → 0 + tree_words ≤ room
+pub room-tree : {f known : List ℕ} {room : ℕ} → Given f known room → 0 + tree_words ≤ room
 unfolding levels room_words
 room-tree g = omega (arith, g.roomy)
 
@@ -85,44 +84,44 @@ asked-told f M t = go (at M t) refl
     go (known o) e = peek-known M t o e
     go unknown e = peek-known (resolve (body f) (count f types) M t).memo t (resolve (body f) (count f types) M t).value (resolve-there (body f) (count f types) M t e)
 
-module _ {f index store : List ℕ} {end t : ℕ} {r : Stored} {index' store' : List ℕ} (s : Recalls f t index store end r index' store') where
-  after-ends : {e : ℕ} → r ≡ Ends e → (M : Memo) → Holding f index store end M → Holding f index' store' e (asked f M t)
-  after-ends i M x = subst (λ (a : Stored). After f a index' store' (asked f M t)) i (s.gives M x)
+module _ {f index store : List ℕ} {end t : ℕ} {r : Option ℕ} {index' store' : List ℕ} (s : Recalls f t index store end r index' store') where
+  after-ends : {e : ℕ} → r ≡ Some e → (M : Memo) → Holding f index store end M → Holding f index' store' e (asked f M t)
+  after-ends i M x = subst (λ (a : Option ℕ). After f a index' store' (asked f M t)) i (s.gives M x)
 
-  pub tells-full : {source tables : List ℕ} {words : ℕ} → Given f source tables words → r ≡ Full → Ample f (length store) → length store' ≡ length store → (made : Built) (room : List ℕ)
+  pub tells-full : {tables : List ℕ} {words : ℕ} → Given f tables words → r ≡ None → Ample f (length store) → length store' ≡ length store → (made : Built) (room : List ℕ)
       → TellsOf f (type_default t) index store end made room
   tells-full g i a l made room =
       record {
         gives = λ M x.
-            never-full g a store' l (asked f M t) (asked-smalls f M t (holding-smalls x)) (subst (λ (a : Stored). After f a index' store' (asked f M t)) i (s.gives M x));
+            never-full g a store' l (asked f M t) (asked-smalls f M t (holding-smalls x)) (subst (λ (a : Option ℕ). After f a index' store' (asked f M t)) i (s.gives M x));
       }
 
-pub tells-type : {f index store : List ℕ} {end t : ℕ} {r : Stored} {tables store' : List ℕ} → Recalls f t index store end r (index_in tables) store' → {e : ℕ} → r ≡ Ends e
+pub tells-type : {f index store : List ℕ} {end t : ℕ} {r : Option ℕ} {tables store' : List ℕ} → Recalls f t index store end r (index_in tables) store' → {e : ℕ} → r ≡ Some e
     → {old new : List ℕ} {made : Built} → Builds f tables store' flatten (type_default t) 0 old made new → TellsOf f (type_default t) index store end made new
 tells-type {f} {t} s i b = record { gives = λ M x. record { gives = rw (asked-told f M t) at (b.gives (asked f M t) (to-memory (after-ends s i M x))) } }
 
 -- ---- after all declared types
-module _ {f : List ℕ} {r : Stored} {index store : List ℕ} (d : Declares f r index store) where
-  pub declared-holding : {e : ℕ} → r ≡ Ends e → Holding f index store e (remembered f)
-  declared-holding i = subst (λ (a : Stored). After f a index store (remembered f)) i d.after
+module _ {f : List ℕ} {r : Option ℕ} {index store : List ℕ} (d : Declares f r index store) where
+  pub declared-holding : {e : ℕ} → r ≡ Some e → Holding f index store e (remembered f)
+  declared-holding i = subst (λ (a : Option ℕ). After f a index store (remembered f)) i d.after
 
-  pub declared-held : {e : ℕ} → r ≡ Ends e → Held f index store e
+  pub declared-held : {e : ℕ} → r ≡ Some e → Held f index store e
   declared-held i = record { memo = remembered f; holding = declared-holding i }
 
-  pub outcome-type : {e : ℕ} → r ≡ Ends e → (t : ℕ) {made : Built} {room : List ℕ} → TellsOf f (type_default t) index store e made room → Tells (type_outcome f t) made room
+  pub outcome-type : {e : ℕ} → r ≡ Some e → (t : ℕ) {made : Built} {room : List ℕ} → TellsOf f (type_default t) index store e made room → Tells (type_outcome f t) made room
   unfolding Resolve.type_outcome Resolve.answer ran
   outcome-type i t h = h.gives (remembered f) (declared-holding i)
 
-  pub outcome-variable : {e : ℕ} → r ≡ Ends e → (v : ℕ) {made : Built} {room : List ℕ} → TellsOf f (declaration f v) index store e made room → Tells (variable_outcome f v) made room
+  pub outcome-variable : {e : ℕ} → r ≡ Some e → (v : ℕ) {made : Built} {room : List ℕ} → TellsOf f (declaration f v) index store e made room → Tells (variable_outcome f v) made room
   unfolding Resolve.variable_outcome Resolve.answer ran
   outcome-variable i v h = h.gives (remembered f) (declared-holding i)
 
-  module _ {source tables : List ℕ} {words : ℕ} (g : Given f source tables words) {n : ℕ} (a : Ample f n) (l : length store ≡ n) (i : r ≡ Full) where
+  module _ {tables : List ℕ} {words : ℕ} (g : Given f tables words) {n : ℕ} (a : Ample f n) (l : length store ≡ n) (i : r ≡ None) where
     pub outcome-never : (o : Outcome) (made : Built) (room : List ℕ) → Tells o made room
-    outcome-never o made room = never-full g a store l (remembered f) (remembered-smalls f) (subst (λ (a : Stored). After f a index store (remembered f)) i d.after)
+    outcome-never o made room = never-full g a store l (remembered f) (remembered-smalls f) (subst (λ (a : Option ℕ). After f a index store (remembered f)) i d.after)
 
 -- ---- a variable
-module _ {f source tables : List ℕ} {words : ℕ} (g : Given f source tables words) {store : List ℕ} {end : ℕ} (h : Held f (index_in tables) store end) (m : Ask Outcome)
+module _ {f tables : List ℕ} {words : ℕ} (g : Given f tables words) {store : List ℕ} {end : ℕ} (h : Held f (index_in tables) store end) (m : Ask Outcome)
     {old new : List ℕ} {made : Built} (b : Builds f tables store flatten m 0 old made new) where
   done-tells : (M : Memo) (p : Peek Outcome) → peek M m ≡ p → Gives flatten p 0 made new → NoWant made → Tells (ran f M m).value made new
   unfolding ran
@@ -142,25 +141,25 @@ module _ {f source tables : List ℕ} {words : ℕ} (g : Given f source tables w
         let u = peek-unknown h.memo d m (wants-it h.memo x) in
         record { held = h; inside = unknown-inside x d u; word = unknown-fresh x d u }
 
-    module _ {r : Stored} {index' store' : List ℕ} (s : Resolves f d (index_in tables) store end r index' store') where
-      then-holding : {e : ℕ} → r ≡ Ends e → (M : Memo) → Holding f (index_in tables) store end M → Holding f index' store' e (resolved f M d)
-      then-holding i M x = subst (λ (a : Stored). After f a index' store' (resolved f M d)) i (s.gives M x)
+    module _ {r : Option ℕ} {index' store' : List ℕ} (s : Resolves f d (index_in tables) store end r index' store') where
+      then-holding : {e : ℕ} → r ≡ Some e → (M : Memo) → Holding f (index_in tables) store end M → Holding f index' store' e (resolved f M d)
+      then-holding i M x = subst (λ (a : Option ℕ). After f a index' store' (resolved f M d)) i (s.gives M x)
 
-      pub then-held : {e : ℕ} → r ≡ Ends e → Held f index' store' e
+      pub then-held : {e : ℕ} → r ≡ Some e → Held f index' store' e
       then-held i = record { memo = resolved f h.memo d; holding = then-holding i h.memo h.holding }
 
       again-value : (M : Memo) → Holding f (index_in tables) store end M → ran f M m ≡ ran f (resolved f M d) m
       unfolding ran resolved
       again-value M x = restart (body f) (count f types) M d m (wants-it M x)
 
-      pub tells-again : {e : ℕ} → r ≡ Ends e → {made' : Built} {room : List ℕ} → TellsOf f m index' store' e made' room → TellsOf f m (index_in tables) store end made' room
+      pub tells-again : {e : ℕ} → r ≡ Some e → {made' : Built} {room : List ℕ} → TellsOf f m index' store' e made' room → TellsOf f m (index_in tables) store end made' room
       tells-again i y = record { gives = λ M x. rw (again-value M x) (y.gives (resolved f M d) (then-holding i M x)) }
 
-      pub tells-never : r ≡ Full → Ample f (length store) → length store' ≡ length store → (made' : Built) (room : List ℕ) → TellsOf f m (index_in tables) store end made' room
+      pub tells-never : r ≡ None → Ample f (length store) → length store' ≡ length store → (made' : Built) (room : List ℕ) → TellsOf f m (index_in tables) store end made' room
       tells-never i a l made' room =
           record {
             gives = λ M x.
-                never-full g a store' l (resolved f M d) (resolved-smalls f M d (peek-unknown M d m (wants-it M x)) (holding-smalls x)) (subst (λ (a : Stored). After f a index' store' (resolved f M d)) i (s.gives M x));
+                never-full g a store' l (resolved f M d) (resolved-smalls f M d (peek-unknown M d m (wants-it M x)) (holding-smalls x)) (subst (λ (a : Option ℕ). After f a index' store' (resolved f M d)) i (s.gives M x));
           }
 
 pub ruleset tells = (rules, given-kept, ample-kept, to-ready, room-tree, declared-held)

@@ -11,8 +11,6 @@ use Rattle.definition.specs.Layout.{count, types}
 use Rattle.definition.specs.Answers.{cleared}
 use Rattle.definition.specs.Resolve.{empty}
 use Rattle.laws.specs.Memo.{empty-long}
-use Rattle.lines.specs.declared.append.Stored.{Stored}
-use Rattle.lines.specs.declared.append.Stored.TheVariants.{Ends, Full}
 use Rattle.lines.specs.Append.{most_words}
 use Rattle.lines.proofs.Memories.{remembers-empty}
 use Rattle.driver.specs.Driver.{width, Holding, After, Held}
@@ -21,6 +19,7 @@ use Rattle.driver.specs.Every.{every_memo, Resolving, ResolvesAll}
 use Rattle.driver.proofs.Widths.{spent-empty}
 use Rattle.driver.proofs.Settling.{given-kept}
 use Rattle.driver.proofs.Asking.{asked-width, index-inside}
+use Rattle.std.specs.Prelude.{None, Option, Some}
 
 module _ (f : List ℕ) where
   every-none : every_memo f 0 ≡ empty (count f types)
@@ -46,21 +45,21 @@ module _ {f index store : List ℕ} {end t : ℕ} (x : Resolving f index store e
   pub resolving-held : Held f index store end
   resolving-held = record { memo = every_memo f t; holding = x.holding }
 
-  pub resolving-done : {n : ℕ} → n ≡ count f types → n ≤ t → ResolvesAll f (Ends end) index store
+  pub resolving-done : {n : ℕ} → n ≡ count f types → n ≤ t → ResolvesAll f (Some end) index store
   resolving-done e h = let k : t ≡ count f types = omega (arith, x.most) in record { after = subst (λ (n : ℕ). Holding f index store end (every_memo f n)) k x.holding }
 
-  module _ (l : t < count f types) {r : Stored} {index' store' : List ℕ} (s : Recalls f t index store end r index' store') where
-    pub resolving-next : {e : ℕ} → r ≡ Ends e → Resolving f index' store' e (t + 1)
+  module _ (l : t < count f types) {r : Option ℕ} {index' store' : List ℕ} (s : Recalls f t index store end r index' store') where
+    pub resolving-next : {e : ℕ} → r ≡ Some e → Resolving f index' store' e (t + 1)
     resolving-next i =
         record {
-          holding = rw (add-one t, every-next f t) (subst (λ (a : Stored). After f a index' store' (asked f (every_memo f t) t)) i (s.gives (every_memo f t) x.holding));
+          holding = rw (add-one t, every-next f t) (subst (λ (a : Option ℕ). After f a index' store' (asked f (every_memo f t) t)) i (s.gives (every_memo f t) x.holding));
           most = omega arith;
         }
 
-    pub resolving-full : r ≡ Full → ResolvesAll f r index' store'
+    pub resolving-full : r ≡ None → ResolvesAll f r index' store'
     resolving-full i =
-        let g : min (length store') most_words < width (asked f (every_memo f t) t) = subst (λ (a : Stored). After f a index' store' (asked f (every_memo f t) t)) i (s.gives (every_memo f t) x.holding) in
-        record { after = subst (λ (a : Stored). After f a index' store' (every_memo f (count f types))) (sym i) (most g) }
+        let g : min (length store') most_words < width (asked f (every_memo f t) t) = subst (λ (a : Option ℕ). After f a index' store' (asked f (every_memo f t) t)) i (s.gives (every_memo f t) x.holding) in
+        record { after = subst (λ (a : Option ℕ). After f a index' store' (every_memo f (count f types))) (sym i) (most g) }
       where
         most : min (length store') most_words < width (asked f (every_memo f t) t) → min (length store') most_words < width (every_memo f (count f types))
         most g =

@@ -10,7 +10,7 @@ use Rattle.build.specs.Built.{Ready}
 use Rattle.initial.specs.Rooms.{body_levels, variable_levels}
 use Rattle.declared.proofs.Roomy.{roomy, body-room, declaration-room}
 
-module _ {f source known store : List ℕ} (y : Ready f source known store) (n : ℕ) (h : room_words f ≤ n) where
+module _ {f known store : List ℕ} (y : Ready f known store) (n : ℕ) (h : room_words f ≤ n) where
   pub type-room : (t : ℕ) → t < count f types → 0 + body_levels f t * tree_words ≤ n
   unfolding room_words
   type-room t l = omega (arith, body-room f y.accepted (roomy f) t l)

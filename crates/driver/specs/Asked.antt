@@ -5,8 +5,8 @@ use Rattle.definition.specs.Layout.{count, types}
 use Rattle.definition.specs.Records.{declaration_kind}
 use Rattle.definition.specs.Resolve.{Memo, at, on_look, empty, asking, declared_below}
 use Rattle.definition.specs.Starting.{remembered}
-use Rattle.lines.specs.declared.append.Stored.{Stored}
 use Rattle.driver.specs.Driver.{Holding, ran, resolved, After}
+use Rattle.std.specs.Prelude.{Option}
 
 unfoldable pub asked : List ℕ → Memo → ℕ → Memo
 asked f M t = on_look (at M t) (λ o. M) (λ u. resolved f M t)
@@ -18,15 +18,15 @@ asked_declared f M t = pick (eqb (declaration_kind f t) 0) M (asked f M t)
 unfoldable pub declared_memo : List ℕ → ℕ → Memo
 declared_memo f t = (ran f (empty (count f types)) (asking (declared_below f t))).memo
 
-pub record Recalls (f : List ℕ) (t : ℕ) (index store : List ℕ) (end : ℕ) (r : Stored) (index' store' : List ℕ) : Type 0 where
+pub record Recalls (f : List ℕ) (t : ℕ) (index store : List ℕ) (end : ℕ) (r : Option ℕ) (index' store' : List ℕ) : Type 0 where
   pub gives : (M : Memo) → Holding f index store end M → After f r index' store' (asked f M t)
 
-pub record RecallsDeclared (f : List ℕ) (t : ℕ) (index store : List ℕ) (end : ℕ) (r : Stored) (index' store' : List ℕ) : Type 0 where
+pub record RecallsDeclared (f : List ℕ) (t : ℕ) (index store : List ℕ) (end : ℕ) (r : Option ℕ) (index' store' : List ℕ) : Type 0 where
   pub gives : (M : Memo) → Holding f index store end M → After f r index' store' (asked_declared f M t)
 
 pub record Declaring (f index store : List ℕ) (end t : ℕ) : Type 0 where
   pub holding : Holding f index store end (declared_memo f t)
   pub most : t ≤ count f types
 
-pub record Declares (f : List ℕ) (r : Stored) (index store : List ℕ) : Type 0 where
+pub record Declares (f : List ℕ) (r : Option ℕ) (index store : List ℕ) : Type 0 where
   pub after : After f r index store (remembered f)

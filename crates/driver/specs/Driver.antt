@@ -8,15 +8,13 @@ use Rattle.definition.specs.Resolve.{Look, known, unknown, Memo, put, Ran, run, 
 use Rattle.definition.specs.Lines.{outcome_words}
 use Rattle.definition.specs.Answers.{room_words}
 use Rattle.laws.specs.Accepted.{Accepted}
-use Rattle.records.specs.Starts.{StartsOf, DeclaredIn}
 use Rattle.shapes.specs.Classes.{Classes}
-use Rattle.lines.specs.declared.append.Stored.{Stored}
-use Rattle.lines.specs.declared.append.Stored.TheVariants.{Ends, Full}
 use Rattle.lines.specs.Append.{most_words, AppendsState, AppendsTree}
 use Rattle.lines.specs.Memory.{Remembers}
 use Rattle.build.specs.declared.built.Built.{Built}
 use Rattle.build.specs.declared.built.Built.TheVariants as built
 use Rattle.build.specs.Built.{index_at}
+use Rattle.std.specs.Prelude.{None, Option, Some}
 
 -- ---- the words of lines
 -- a line has a rank before its outcome's words
@@ -60,35 +58,33 @@ unfoldable pub resolved : List ℕ → Memo → ℕ → Memo
 resolved f M t = (resolve (body f) (count f types) M t).memo
 
 -- a memo is held, or its lines are more than a store has room for
-abbrev pub After : List ℕ → Stored → List ℕ → List ℕ → Memo → Type 0
-After f (Ends e) index store N = Holding f index store e N
-After f Full index store N = min (length store) most_words < width N
+abbrev pub After : List ℕ → Option ℕ → List ℕ → List ℕ → Memo → Type 0
+After f (Some e) index store N = Holding f index store e N
+After f None index store N = min (length store) most_words < width N
 
 -- ---- contracts
 -- what was built at the front of a room becomes the line of t
-abbrev pub AppendsBuilt : Built → List ℕ → List ℕ → List ℕ → ℕ → ℕ → Stored → List ℕ → List ℕ → Type 0
+abbrev pub AppendsBuilt : Built → List ℕ → List ℕ → List ℕ → ℕ → ℕ → Option ℕ → List ℕ → List ℕ → Type 0
 AppendsBuilt (built.Ends e) room index store end t r index' store' = AppendsTree room 0 (e / 6) index store end t r index' store'
 AppendsBuilt built.None room index store end t r index' store' = AppendsState 1 index store end t r index' store'
 AppendsBuilt built.TooLarge room index store end t r index' store' = AppendsState 2 index store end t r index' store'
 AppendsBuilt (built.Wanted d) room index store end t r index' store' = Unit {0}
 
-pub record Stores (made : Built) (room index store : List ℕ) (end t : ℕ) (r : Stored) (index' store' : List ℕ) : Type 0 where
+pub record Stores (made : Built) (room index store : List ℕ) (end t : ℕ) (r : Option ℕ) (index' store' : List ℕ) : Type 0 where
   pub appends : AppendsBuilt made room index store end t r index' store'
 
-pub record Settles (f : List ℕ) (t : ℕ) (index store : List ℕ) (end : ℕ) (r : Stored) (index' store' : List ℕ) : Type 0 where
+pub record Settles (f : List ℕ) (t : ℕ) (index store : List ℕ) (end : ℕ) (r : Option ℕ) (index' store' : List ℕ) : Type 0 where
   pub gives : (M : Memo) → Holding f index store end M → After f r index' store' (settled f M t)
   pub old : (s w : ℕ) → (s ≡ t → ⊥) → get_or index s 0 ≡ suc w → get_or index' s 0 ≡ suc w
   pub fewer : zeros index' ≤ zeros index
 
-pub record Resolves (f : List ℕ) (t : ℕ) (index store : List ℕ) (end : ℕ) (r : Stored) (index' store' : List ℕ) : Type 0 where
+pub record Resolves (f : List ℕ) (t : ℕ) (index store : List ℕ) (end : ℕ) (r : Option ℕ) (index' store' : List ℕ) : Type 0 where
   pub gives : (M : Memo) → Holding f index store end M → After f r index' store' (resolved f M t)
   pub old : (s w : ℕ) → get_or index s 0 ≡ suc w → get_or index' s 0 ≡ suc w
   pub fewer : zeros index' < zeros index
 
 -- what the arguments that every function hands on have to be: the tables have a word of the index for each type
-pub record Given (f source known : List ℕ) (room : ℕ) : Type 0 where
-  pub starts : StartsOf f source
-  pub declared : DeclaredIn f source
+pub record Given (f known : List ℕ) (room : ℕ) : Type 0 where
   pub accepted : Accepted f
   pub classed : Classes f known
   pub tables : index_at + count f types ≤ length known

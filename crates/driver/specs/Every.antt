@@ -2,9 +2,9 @@
 use Rattle.std.specs.Prelude.{List, ℕ, zero, suc, ◌≤◌}
 use Rattle.definition.specs.Layout.{count, types}
 use Rattle.definition.specs.Resolve.{Memo, empty}
-use Rattle.lines.specs.declared.append.Stored.{Stored}
 use Rattle.driver.specs.Driver.{Holding, After}
 use Rattle.driver.specs.Asked.{asked}
+use Rattle.std.specs.Prelude.{Option}
 
 -- after the first so many types
 unfoldable pub every_memo : List ℕ → ℕ → Memo
@@ -15,5 +15,5 @@ pub record Resolving (f index store : List ℕ) (end t : ℕ) : Type 0 where
   pub holding : Holding f index store end (every_memo f t)
   pub most : t ≤ count f types
 
-pub record ResolvesAll (f : List ℕ) (r : Stored) (index store : List ℕ) : Type 0 where
+pub record ResolvesAll (f : List ℕ) (r : Option ℕ) (index store : List ℕ) : Type 0 where
   pub after : After f r index store (every_memo f (count f types))

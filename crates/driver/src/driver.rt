@@ -1,4 +1,6 @@
 // A type resolved, and its line appended.
+#![tactic(auto, using(crate::proofs::Settling::appending))]
+
 ghost use Rattle.std.specs.Prelude.{◌≤◌, length};
 ghost use Rattle.build.specs.Built.{index_at, index_in};
 ghost use Rattle.driver.specs.Tables.{Front};
@@ -8,7 +10,8 @@ use crate::tables::begin_type;
 use crate::work::work_out;
 use build::built::{Built, INDEX_AT};
 use definition::layout::NODE_WORDS;
-use lines::append::{Stored, remember_large, remember_none, remember_tree};
+use lines::append::{remember_large, remember_none, remember_tree};
+use records::file::File;
 
 // What was built at the front of the room becomes a type's line.
 fn append_line(
@@ -18,14 +21,14 @@ fn append_line(
     t: u32,
     room: &[u32],
     built: Built,
-) -> Stored
+) -> Option<usize>
     ensures { Stores built room.now index.old store.old end t result index.new store.new }
 {
     match built {
         Built::Ends(e) => remember_tree(index, store, end, t, room, 0, e / NODE_WORDS),
         Built::None => remember_none(index, store, end, t),
         Built::TooLarge => remember_large(index, store, end, t),
-        Built::Wanted(_) => Stored::Full,
+        Built::Wanted(_) => None,
     }
 }
 
@@ -37,7 +40,7 @@ fn append(
     t: u32,
     room: &[u32],
     built: Built,
-) -> Stored
+) -> Option<usize>
     requires { index_at ≤ length known.old }
     ensures { Front known.old known.new × Stores built room.now (index_in known.old) store.old end t result (index_in known.new) store.new }
 {
@@ -46,45 +49,44 @@ fn append(
 
 // A type in progress is worked out. A type that it wants is resolved first, and the work starts again.
 fn settle(
-    file: &[u32],
-    source: &[usize],
+    file: &File<'_>,
     known: &mut [u32],
     store: &mut [u32],
     end: usize,
     t: u32,
     room: &mut [u32],
-) -> Stored
-    requires { Given file.now source.now known.old (length room.old) × Begun file.now (index_in known.old) store.old end t }
-    ensures { Front known.old known.new × Settles file.now t (index_in known.old) store.old end result (index_in known.new) store.new }
+) -> Option<usize>
+    requires { Given file.now.source known.old (length room.old) × Begun file.now.source (index_in known.old) store.old end t }
+    ensures { Front known.old known.new × Settles file.now.source t (index_in known.old) store.old end result (index_in known.new) store.new }
 {
     let mut last = end;
     loop {
-        let built = work_out(file, source, &known[..], &store[..], t, room);
+        let built = work_out(file, &known[..], &store[..], t, room);
         let Built::Wanted(d) = built else {
             return append(known, store, last, t, &room[..], built);
         };
         begin_type(known, d);
-        let stored = settle(file, source, known, store, last, d, room);
+        let stored = settle(file, known, store, last, d, room);
         match stored {
-            Stored::Ends(e) => last = e,
-            Stored::Full => return stored,
+            Some(e) => last = e,
+            None => return stored,
         }
     }
 }
 
 // An unknown type is worked out, and remembered.
+#[tactic(auto, using(crate::proofs::Settling::settling))]
 pub fn resolve(
-    file: &[u32],
-    source: &[usize],
+    file: &File<'_>,
     known: &mut [u32],
     store: &mut [u32],
     end: usize,
     t: u32,
     room: &mut [u32],
-) -> Stored
-    requires { Given file.now source.now known.old (length room.old) × Fresh file.now (index_in known.old) store.old end t }
-    ensures { Front known.old known.new × Resolves file.now t (index_in known.old) store.old end result (index_in known.new) store.new }
+) -> Option<usize>
+    requires { Given file.now.source known.old (length room.old) × Fresh file.now.source (index_in known.old) store.old end t }
+    ensures { Front known.old known.new × Resolves file.now.source t (index_in known.old) store.old end result (index_in known.new) store.new }
 {
     begin_type(known, t);
-    settle(file, source, known, store, end, t, room)
+    settle(file, known, store, end, t, room)
 }

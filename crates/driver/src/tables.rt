@@ -1,4 +1,6 @@
 // The index of remembered types, which stands in the tables behind the shape classes: lent to the functions of `lines`, while the classes stay.
+#![tactic(auto, using(crate::proofs::Tabling::tabling))]
+
 ghost use Rattle.std.specs.Prelude.{◌≡◌, ◌+◌, ◌≤◌, ◌<◌, eqb, length, get_or, set};
 ghost use Rattle.definition.specs.Answers.{cleared};
 ghost use Rattle.build.specs.Built.{index_at, index_in};

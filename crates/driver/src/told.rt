@@ -12,84 +12,80 @@ use crate::driver::resolve;
 use crate::work::variable;
 use build::built::Built;
 use build::remembered::type_default;
-use lines::append::Stored;
+use records::file::File;
 
 // A type's outcome, from what is remembered.
 fn tell_type(
-    file: &[u32],
-    source: &[usize],
+    file: &File<'_>,
     known: &mut [u32],
     store: &mut [u32],
     end: usize,
     t: u32,
     room: &mut [u32],
 ) -> Built
-    requires { Given file.now source.now known.old (length room.old) × Held file.now (index_in known.old) store.old end × (t < Layout.count file.now Layout.types) × Ample file.now (length store.old) }
-    ensures { TellsOf file.now (type_default t) (index_in known.old) store.old end result room.new }
+    requires { Given file.now.source known.old (length room.old) × Held file.now.source (index_in known.old) store.old end × (t < Layout.count file.now.source Layout.types) × Ample file.now.source (length store.old) }
+    ensures { TellsOf file.now.source (type_default t) (index_in known.old) store.old end result room.new }
 {
-    let stored = ask_type(file, source, known, store, end, t, room);
+    let stored = ask_type(file, known, store, end, t, room);
     match stored {
-        Stored::Ends(last) => type_default(file, &known[..], &store[..], t, room, 0),
-        Stored::Full => Built::None,
+        Some(last) => type_default(&file.source, &known[..], &store[..], t, room, 0),
+        None => Built::None,
     }
 }
 
 pub fn type_outcome(
-    file: &[u32],
-    source: &[usize],
+    file: &File<'_>,
     known: &mut [u32],
     store: &mut [u32],
     t: u32,
     room: &mut [u32],
 ) -> Built
-    requires { Given file.now source.now known.old (length room.old) × (t < Layout.count file.now Layout.types) × Ample file.now (length store.old) }
-    ensures { Tells (type_outcome file.now t) result room.new }
+    requires { Given file.now.source known.old (length room.old) × (t < Layout.count file.now.source Layout.types) × Ample file.now.source (length store.old) }
+    ensures { Tells (type_outcome file.now.source t) result room.new }
 {
-    let stored = resolve_declared(file, source, known, store, room);
+    let stored = resolve_declared(file, known, store, room);
     match stored {
-        Stored::Ends(end) => { tell_type(file, source, known, store, end, t, room) }
-        Stored::Full => Built::None,
+        Some(end) => { tell_type(file, known, store, end, t, room) }
+        None => Built::None,
     }
 }
 
 // A variable's outcome, from what is remembered. A type that it wants is resolved first, and the work starts again.
 fn tell_variable(
-    file: &[u32],
-    source: &[usize],
+    file: &File<'_>,
     known: &mut [u32],
     store: &mut [u32],
     end: usize,
     v: u32,
     room: &mut [u32],
 ) -> Built
-    requires { Given file.now source.now known.old (length room.old) × Held file.now (index_in known.old) store.old end × (v < Layout.count file.now Layout.variables) × Ample file.now (length store.old) }
-    ensures { TellsOf file.now (declaration file.now v) (index_in known.old) store.old end result room.new }
+    requires { Given file.now.source known.old (length room.old) × Held file.now.source (index_in known.old) store.old end × (v < Layout.count file.now.source Layout.variables) × Ample file.now.source (length store.old) }
+    ensures { TellsOf file.now.source (declaration file.now.source v) (index_in known.old) store.old end result room.new }
 {
-    let built = variable(file, source, &known[..], &store[..], v, room);
+    let built = variable(file, &known[..], &store[..], v, room);
     let Built::Wanted(d) = built else {
         return built;
     };
-    let stored = resolve(file, source, known, store, end, d, room);
+    let stored = resolve(file, known, store, end, d, room);
     match stored {
-        Stored::Ends(e) => { tell_variable(file, source, known, store, e, v, room) }
-        Stored::Full => Built::None,
+        Some(e) => { tell_variable(file, known, store, e, v, room) }
+        None => Built::None,
     }
 }
 
 pub fn variable_outcome(
-    file: &[u32],
-    source: &[usize],
+    file: &File<'_>,
     known: &mut [u32],
     store: &mut [u32],
     v: u32,
     room: &mut [u32],
 ) -> Built
-    requires { Given file.now source.now known.old (length room.old) × (v < Layout.count file.now Layout.variables) × Ample file.now (length store.old) }
-    ensures { Tells (variable_outcome file.now v) result room.new }
+    requires { Given file.now.source known.old (length room.old) × (v < Layout.count file.now.source Layout.variables) × Ample file.now.source (length store.old) }
+    ensures { Tells (variable_outcome file.now.source v) result room.new }
 {
-    let stored = resolve_declared(file, source, known, store, room);
+    let stored = resolve_declared(file, known, store, room);
     match stored {
-        Stored::Ends(end) => { tell_variable(file, source, known, store, end, v, room) }
-        Stored::Full => Built::None,
+        Some(end) => { tell_variable(file, known, store, end, v, room) }
+        None => Built::None,
     }
 }

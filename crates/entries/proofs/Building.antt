@@ -42,8 +42,6 @@ use Rattle.laws.specs.Gathers.{Gathered, gathered-parts}
 use Rattle.laws.specs.Steps.{peek-done, peek-give, peek-nothing, peek-ok, peek-none, peek-large, peek-wanted}
 use Rattle.laws.specs.Whole.{Good, Goods}
 use Rattle.places.specs.Inside.{PlaceIn}
-use Rattle.tree.specs.declared.extent.Extent.{Extent}
-use Rattle.tree.specs.declared.extent.Extent.TheVariants as extent
 use Rattle.tree.specs.Words.{Stand, WroteNode}
 use Rattle.tree.specs.Node.{head_words}
 use Rattle.tree.specs.Part.{place}
@@ -79,12 +77,12 @@ use Rattle.definition.specs.Depth.{shape_depth}
 use Rattle.laws.specs.Depths.{shape-depth-least}
 use Rattle.places.specs.Inside.{element-shape}
 use Rattle.places.specs.Shapes.{on-kind}
-use Rattle.tree.specs.declared.part.Found as parts-found
-use Rattle.tree.specs.declared.part.Found.TheVariants as found
-use Rattle.tree.specs.Part.{find_of}
+use Rattle.tree.specs.declared.extent.Span.{Span}
+use Rattle.tree.specs.Part.{span, find_of}
 use Rattle.tree.proofs.Fields.{goods-parted}
 use Rattle.tree_changes.proofs.Splicing.{part-stands}
 use Rattle.laws.specs.Whole.{nodes_in-join, flatten-length}
+use Rattle.std.specs.Prelude.{None, Option, Some}
 
 -- ---- `array`
 -- a part that was lent, and the whole with it back
@@ -113,8 +111,8 @@ array-is f p first many =
     ∙ sym (then-assoc (Defs.expand_all f (inits_at f first many) (leaf_place f p) ds 0 0) (λ vs. gathered 0 (filled ds vs)) (λ ts. give (array_tree ts)))))
     ∙ sym (then-assoc (element_defaults f (default_of f) p) (λ ds. values_of f p first many ds) (λ ts. give (array_tree ts)))
 
-module _ (f known store : List ℕ) (p : Place) (first many : ℕ) {old : List ℕ} (at : ℕ) {x : Extent} {mid : List ℕ} (u : WroteNode old at (head_words 13 0) x mid) where
-  pub array-short : x ≡ extent.Not → BuildsArray f known store p first many old at built.None mid
+module _ (f known store : List ℕ) (p : Place) (first many : ℕ) {old : List ℕ} (at : ℕ) {x : Option ℕ} {mid : List ℕ} (u : WroteNode old at (head_words 13 0) x mid) where
+  pub array-short : x ≡ None → BuildsArray f known store p first many old at built.None mid
   array-short q =
       record {
         says = λ M k room.
@@ -122,7 +120,7 @@ module _ (f known store : List ℕ) (p : Place) (first many : ℕ) {old : List �
             let v = rw (le-leb (at + 6) (length old) h) at u.says in let n : ◌≡◌ {A = ℕ} 0 1 = cc in absurd (omega arith);
       }
 
-  module _ {from : ℕ} (q : x ≡ extent.Ends from) (g : length mid ≡ length old) {r : Listed} {part : List ℕ}
+  module _ {from : ℕ} (q : x ≡ Some from) (g : length mid ≡ length old) {r : Listed} {part : List ℕ}
       (w : FillsArray f known store p first many (take (length mid - from) (drop from mid)) r part)
       {r' : Built} {new : List ℕ} (z : Heads r at from (put_mid from (length mid - from) mid part) r' new) where
     from_is : from ≡ at + 6
@@ -155,7 +153,7 @@ module _ (f known store : List ℕ) (p : Place) (first many : ℕ) {old : List �
         }
 
 -- where the rest begins
-module _ {old : List ℕ} {at : ℕ} {ws : List ℕ} {x : Extent} {mid : List ℕ} (u : WroteNode old at ws x mid) {from : ℕ} (q : x ≡ extent.Ends from) where
+module _ {old : List ℕ} {at : ℕ} {ws : List ℕ} {x : Option ℕ} {mid : List ℕ} (u : WroteNode old at ws x mid) {from : ℕ} (q : x ≡ Some from) where
   pub rest-begins : length mid ≡ length old → from ≤ length mid
   rest-begins g =
       let z = wrote-so-is (leb (at + 6) (length old)) u q in
@@ -190,7 +188,7 @@ module _ (f known store : List ℕ) (p : Place) (first many : ℕ) (old : List �
       go M listed.TooLarge o h = peek-large M (element_defaults f (default_of f) p) (λ ds. values_of f p first many ds) h
       go M (listed.Wanted n) o h = peek-wanted M (element_defaults f (default_of f) p) (λ ds. values_of f p first many ds) n h
 
-  module _ {source : List ℕ} (gv : Ready f source known store) (pin : PlaceIn f p) {end places size : ℕ} (q : d ≡ listed.Ends end places size) (g : length mid ≡ length old) {r : Listed} {new : List ℕ}
+  module _ (gv : Ready f known store) (pin : PlaceIn f p) {end places size : ℕ} (q : d ≡ listed.Ends end places size) (g : length mid ≡ length old) {r : Listed} {new : List ℕ}
       (w : FillsValues f known store p first many places mid end r new) where
     pub fill-filled : FillsArray f known store p first many old r new
     fill-filled =
@@ -273,7 +271,7 @@ module _ {f known store : List ℕ} {first many : ℕ} {p : Place} {old : List �
             };
       }
 
-  module _ {source : List ℕ} (gv : Ready f source known store) (hr : first + many ≤ count f entries) (h : i < many) {r : Built} {new : List ℕ}
+  module _ (gv : Ready f known store) (hr : first + many ≤ count f entries) (h : i < many) {r : Built} {new : List ℕ}
       (w : SetsMember f known store (first + i) p s at upto r new) where
     apply-ready : (M : Memo) (k : Memory f known store M) (fields : Trees) (z : Structure old at end (rooms f (run_depth f first many)) fields)
         → Structure s at upto (12288 + rooms f (entry_depth f (first + i) - 1)) (y.says M k fields z).now
@@ -350,21 +348,21 @@ structure-kind ts = refl
 
 -- a field of a structure that stands
 module _ (s : List ℕ) (at end name begin upto : ℕ) where
-  part-there : (h : Rattle.definition.specs.Tree.Node) (ts : Trees) → Stand s at (flatten (node h ts)) end → (n : Named name (at + 6) ts begin upto) → Stand s begin (flatten n.part) upto
+  part-there : (h : Rattle.definition.specs.Tree.Node) (ts : Trees) → Stand s at (flatten (node h ts)) end → (n : Named name (at + 6) ts (span begin upto)) → Stand s begin (flatten n.part) upto
   part-there h ts x n = go n.front n.part n.back n.is n.begins n.ends
     where
       go : (f : Trees) (p : Tree) (b : Trees) → ts ≡ Rattle.definition.specs.Tree.join f (tcons p b) → begin ≡ at + 6 + 6 * nodes_in f → upto ≡ begin + 6 * nodes p → Stand s begin (flatten p) upto
       go f p b k i j = part-stands s (record { begin = at; end = end }) h f p b (rw k at x) (record { begin = begin; end = upto }) i j
 
-  part-good : (ts : Trees) → Goods ts → (n : Named name (at + 6) ts begin upto) → Good n.part
+  part-good : (ts : Trees) → Goods ts → (n : Named name (at + 6) ts (span begin upto)) → Good n.part
   unfolding Good
   part-good ts g n = (goods-parted n.front (tcons n.part n.back) (rw n.is at g)).1.0
 
-  part-nodes : (ts : Trees) (n : Named name (at + 6) ts begin upto) → nodes_in ts ≡ nodes_in n.front + (nodes n.part + nodes_in n.back)
+  part-nodes : (ts : Trees) (n : Named name (at + 6) ts (span begin upto)) → nodes_in ts ≡ nodes_in n.front + (nodes n.part + nodes_in n.back)
   unfolding nodes
   part-nodes ts n = ap nodes_in n.is ∙ nodes_in-join n.front (tcons n.part n.back)
 
-  field-current : (ts : Trees) (need : ℕ) → Structure s at end (12288 + need) ts → (n : Named name (at + 6) ts begin upto) → Current s begin upto n.part end need
+  field-current : (ts : Trees) (need : ℕ) → Structure s at end (12288 + need) ts → (n : Named name (at + 6) ts (span begin upto)) → Current s begin upto n.part end need
   unfolding nodes
   field-current ts need y n =
       let x : Stand s at (flatten (node (head_of ts) ts)) end = rw (structure-node ts) at y.stands in
@@ -377,11 +375,11 @@ module _ (s : List ℕ) (at end name begin upto : ℕ) where
         room = omega (arith, y.room, flatten-length (node (head_of ts) ts), y.whole.room);
       }
 
-  field-found-at : (ts : Trees) (need : ℕ) → Structure s at end need ts → find_of s at name ≡ found.At begin upto → place name (at + 6) ts ≡ found.At begin upto
+  field-found-at : (ts : Trees) (need : ℕ) → Structure s at end need ts → find_of s at name ≡ Some (span begin upto) → place name (at + 6) ts ≡ Some (span begin upto)
   field-found-at ts need y q =
-      rw (structure-parts ts) at (found-place s at (structure_tree ts) end name begin upto (small-structure ts y.whole).good y.stands q).1
+      rw (structure-parts ts) at (found-place s at (structure_tree ts) end name (span begin upto) (small-structure ts y.whole).good y.stands q).1
 
-field-missing : (s : List ℕ) (at end name : ℕ) (ts : Trees) (need : ℕ) → Structure s at end need ts → find_of s at name ≡ found.Nothing → place name (at + 6) ts ≡ found.Nothing
+field-missing : (s : List ℕ) (at end name : ℕ) (ts : Trees) (need : ℕ) → Structure s at end need ts → find_of s at name ≡ None → place name (at + 6) ts ≡ None
 unfolding field_at
 field-missing s at end name ts need y q =
     let e = find-there s at (structure_tree ts) end name (small-structure ts y.whole).good y.stands in
@@ -389,14 +387,14 @@ field-missing s at end name ts need y q =
 
 -- the step, where the field and its place are found
 module _ (M : Memo) (f : List ℕ) (e : ℕ) (p : Place) (fields : Trees) where
-  step-found : (name : ℕ) → name ≡ entry_name f e → {at b u : ℕ} → (n : Named name at fields b u) → (inner : Place) → field_place f p name ≡ ok inner → (k : Trees → Ask Outcome)
+  step-found : (name : ℕ) → name ≡ entry_name f e → {at : ℕ} {x : Span} → (n : Named name at fields x) → (inner : Place) → field_place f p name ≡ ok inner → (k : Trees → Ask Outcome)
       → peek M (member_step f e p fields k) ≡ peek M (Defs.member f (init_at f e) inner (named 0 n.part) >>= λ t. gathered 0 (assigned name t fields) >>= k)
   unfolding member_step
   step-found name q n inner h k =
       rw (← q) (ap (peek M) (n.asked _)
       ∙ peek-ok M (done (field_place f p name)) (λ inner. Defs.member f (init_at f e) inner (named 0 n.part) >>= λ t. gathered 0 (assigned name t fields) >>= k) inner (peek-done M _ ∙ ap got h))
 
-  step-missing : (at : ℕ) → place (entry_name f e) at fields ≡ found.Nothing → (k : Trees → Ask Outcome) → peek M (member_step f e p fields k) ≡ got none
+  step-missing : (at : ℕ) → place (entry_name f e) at fields ≡ None → (k : Trees → Ask Outcome) → peek M (member_step f e p fields k) ≡ got none
   unfolding member_step
   step-missing at q k = ap (peek M) (place_none (entry_name f e) at fields q _) ∙ peek-nothing M
 
@@ -404,12 +402,12 @@ module _ (M : Memo) (f : List ℕ) (e : ℕ) (p : Place) (fields : Trees) where
   unfolding member_step
   step-nowhere at h k = go (place (entry_name f e) at fields) refl
     where
-      go : (x : parts-found.Found) → place (entry_name f e) at fields ≡ x → peek M (member_step f e p fields k) ≡ got none
-      go (found.At b u) q =
-          let n = place-named (entry_name f e) at fields b u q in
+      go : (x : Option Span) → place (entry_name f e) at fields ≡ x → peek M (member_step f e p fields k) ≡ got none
+      go (Some x) q =
+          let n = place-named (entry_name f e) at fields x q in
           ap (peek M) (n.asked _)
           ∙ peek-none M (done (field_place f p (entry_name f e))) (λ inner. Defs.member f (init_at f e) inner (named 0 n.part) >>= λ t. gathered 0 (assigned (entry_name f e) t fields) >>= k) (peek-done M _ ∙ ap got h)
-      go found.Nothing q = step-missing at q k
+      go None q = step-missing at q k
 
 module _ (f known store : List ℕ) (e : ℕ) (p : Place) (old : List ℕ) (at end : ℕ) {t : Target} (u : Finds f p e old at t) where
   pub set-none : OneOf (1 ∷ []) (tag_of target-tags.the_type t) → SetsMember f known store e p old at end built.None old
@@ -429,7 +427,7 @@ module _ (f known store : List ℕ) (e : ℕ) (p : Place) (old : List ℕ) (at e
           says = λ M k fields y.
               let x : Targets f p e old at (target.At begin upto name inner) = rw q at u.says in
               let pl = field-found-at old at end name begin upto fields (12288 + rooms f (entry_depth f e - 1)) y x.1 in
-              let n = place-named name (at + 6) fields begin upto pl in
+              let n = place-named name (at + 6) fields (span begin upto) pl in
               let c = field-current old at end name begin upto fields (rooms f (entry_depth f e - 1)) y n in
               let v = w.says M k n.part c in
               let m = Defs.member f (init_at f e) inner (named 0 n.part) in
@@ -473,7 +471,7 @@ member-array-is : (f : List ℕ) (first many : ℕ) (p : Place) (t : Tree) → D
 unfolding Defaults.expand Defaults.array_of
 member-array-is f first many p t = refl
 
-module _ {f source known store : List ℕ} (g : Ready f source known store) (e : ℕ) (h : e < count f entries) {x : Entry} (is : x ≡ entry_at f e)
+module _ {f known store : List ℕ} (g : Ready f known store) (e : ℕ) (h : e < count f entries) {x : Entry} (is : x ≡ entry_at f e)
     {p : Place} (begin upto : ℕ) {old : List ℕ} {at : ℕ} {r : Built} {new : List ℕ} where
   pub member-array : {first many : ℕ} → x ≡ entry.Array first many → BuildsArray f known store p first many old at r new → BuildsMember f known store e p begin upto old at r new
   member-array {first} {many} q w =
@@ -536,7 +534,7 @@ module _ (f known store : List ℕ) (first many : ℕ) (p : Place) {begin upto :
 
 -- ---- what stands for the calls
 module _ (f : List ℕ) (first many : ℕ) where
-  pub fill-there : {old : List ℕ} {at : ℕ} {x : Extent} {mid : List ℕ} → WroteNode old at (head_words 13 0) x mid → {from : ℕ} → x ≡ extent.Ends from → length mid ≡ length old
+  pub fill-there : {old : List ℕ} {at : ℕ} {x : Option ℕ} {mid : List ℕ} → WroteNode old at (head_words 13 0) x mid → {from : ℕ} → x ≡ Some from → length mid ≡ length old
       → RoomThere old at (rooms f (run_depth f first many)) → RoomThere (take (length mid - from) (drop from mid)) 0 (12282 + 24576 * (run_depth f first many + shapes_deep f))
   fill-there {old} {at} {x} {mid} u {from} q g y =
       let a = part-rest from mid in
@@ -547,7 +545,7 @@ module _ (f : List ℕ) (first many : ℕ) where
   elements-there y = record { room = omega (arith, y.room) }
 
   pub values-there : {known store : List ℕ} {p : Place} {old : List ℕ} {d : Listed} {mid : List ℕ} → ElementDefaults f known store p old 0 d mid → {end places size : ℕ} → d ≡ listed.Ends end places size
-      → length mid ≡ length old → {source : List ℕ} → Ready f source known store → RoomThere old 0 (12282 + 24576 * (run_depth f first many + shapes_deep f)) → ValuesThere f first many places mid end
+      → length mid ≡ length old → Ready f known store → RoomThere old 0 (12282 + 24576 * (run_depth f first many + shapes_deep f)) → ValuesThere f first many places mid end
   values-there {known} {store} {p} {old} {d} {mid} u q g gv y =
       let t = lists-as gv.memo (element_defaults f (default_of f) p) whole 0 mid q (u.says gv.memo gv.memory (omega (arith, y.room))).lists in
       record { trees = t.trees; stands = t.stands; small = t.small; counts = omega (arith, t.counts); room = omega (arith, y.room, t.ends, t.small.room) }
@@ -561,7 +559,7 @@ module _ (f : List ℕ) (first many : ℕ) where
       }
 
 pub apply-there : {f known store : List ℕ} {first many : ℕ} {p : Place} {old : List ℕ} {at end i upto : ℕ} {s : List ℕ} → ApplyInv f known store first many p old at end i upto s
-    → {source : List ℕ} → Ready f source known store → first + many ≤ count f entries → i < many → FieldsThere old at end (rooms f (run_depth f first many))
+    → Ready f known store → first + many ≤ count f entries → i < many → FieldsThere old at end (rooms f (run_depth f first many))
     → FieldsThere s at upto (12288 + rooms f (entry_depth f (first + i) - 1))
 apply-there {f} {known} {store} {first} {many} {p} {old} {at} {end} {i} {upto} {s} y gv hr h z =
     let v = y.says gv.memo gv.memory z.fields z.there in
@@ -573,7 +571,7 @@ pub target-there : (f : List ℕ) (p : Place) (e : ℕ) {old : List ℕ} {at end
 target-there f p e {old} {at} {end} {t} u {begin} {upto} {name} {inner} q {need} y =
     let x : Targets f p e old at (target.At begin upto name inner) = rw q at u.says in
     let pl = field-found-at old at end name begin upto y.fields (12288 + need) y.there x.1 in
-    let n = place-named name (at + 6) y.fields begin upto pl in
+    let n = place-named name (at + 6) y.fields (span begin upto) pl in
     record { tree = n.part; there = field-current old at end name begin upto y.fields need y.there n }
 
 pub over-there : (f : List ℕ) (n : ℕ) {begin upto : ℕ} {old : List ℕ} {at : ℕ} {b : Built} {mid : List ℕ} → CopiesStructure begin upto old at b mid → {end : ℕ} → b ≡ built.Ends end → length mid ≡ length old

@@ -97,7 +97,7 @@ module _ (f : List ℕ) (a : Accepted f) (e : ℕ) (h : e < count f entries) {x 
         go (suc i) p = omega (arith, p.0)
 
 -- ---- what falls, and what the calls require
-module _ {f source known store : List ℕ} (g : Ready f source known store) where
+module _ {f known store : List ℕ} (g : Ready f known store) where
   module _ (e : ℕ) (h : e < count f entries) {x : Entry} (is : x ≡ entry_at f e) where
     pub structure-falls : {first many : ℕ} → x ≡ entry.Structure first many → {t : ℕ} → 16 * entry_depth f e + 1 ≡ t → 16 * deepest (entry_depth f) first many + 15 < t
     structure-falls q m = omega (arith, structure-depth f g.accepted e h is q)
@@ -140,7 +140,7 @@ run-falls f first many i h m = omega (arith, deepest-at (entry_depth f) first ma
 pub members-fall : (f : List ℕ) (first many i : ℕ) → i < many → {t : ℕ} → 16 * deepest (entry_depth f) first many + 14 ≡ t → 16 * entry_depth f (first + i) + 13 < t
 members-fall f first many i h m = omega (arith, deepest-at (entry_depth f) first many (first + i) (omega arith) (omega arith))
 
-pub leaf-inside : {f source known store : List ℕ} → Ready f source known store → {p : Place} → PlaceIn f p → {leaf : Place} → leaf ≡ leaf_place f p → PlaceIn f leaf
+pub leaf-inside : {f known store : List ℕ} → Ready f known store → {p : Place} → PlaceIn f p → {leaf : Place} → leaf ≡ leaf_place f p → PlaceIn f leaf
 leaf-inside {f} g {p} i e = rw e (leaf-in f g.accepted p i)
 
 -- ---- less room
@@ -170,7 +170,7 @@ simple-is M f below leaf l ds n (entry.Repeat many inner) o b = absurd (miss sim
 simple-is M f below leaf l ds n entry.Unknown o b =
     peek-nothing M ∙ sym (peek-none M (done none) (λ t. added l.places l.made l.size (one t)) (peek-done M none))
 
-module _ {f source known store : List ℕ} (g : Ready f source known store) (e : ℕ) (h : e < count f entries) {x : Entry} (is : x ≡ entry_at f e)
+module _ {f known store : List ℕ} (g : Ready f known store) (e : ℕ) (h : e < count f entries) {x : Entry} (is : x ≡ entry_at f e)
     {leaf : Place} {l : Filling} {old : List ℕ} {at : ℕ} {r : Listed} {new : List ℕ} where
   pub expand-structure : {first many : ℕ} → x ≡ entry.Structure first many → ExpandsStructure f known store first many leaf l old at r new → Expands f known store e leaf l old at r new
   expand-structure {first} {many} q w =
@@ -244,7 +244,7 @@ module _ {f known store : List ℕ} (k e : ℕ) {leaf : Place} {l : Filling} {at
         }
 
 -- ---- what stands for the calls
-module _ {f source known store : List ℕ} (g : Ready f source known store) (e : ℕ) (h : e < count f entries) {x : Entry} (is : x ≡ entry_at f e) {s : List ℕ} where
+module _ {f known store : List ℕ} (g : Ready f known store) (e : ℕ) (h : e < count f entries) {x : Entry} (is : x ≡ entry_at f e) {s : List ℕ} where
   module _ {l : Filling} {at : ℕ} (y : DefaultsThere s l at (rooms f (entry_depth f e - 1))) where
     pub structure-there : {first many : ℕ} → x ≡ entry.Structure first many → DefaultsThere s l at (rooms f (run_depth f first many))
     structure-there {first} {many} q = record { trees = y.trees; ready = fillable-less y.ready (rooms f (run_depth f first many)) (omega (arith, structure-depth f g.accepted e h is q)) }

@@ -172,7 +172,7 @@ module _ {f known store : List ℕ} {first many : ℕ} {leaf : Place} {l : Filli
             so-far-all M _ l old at (y.says M k ds z room).far (ap (λ n. Defs.expand_all f (inits_at f (first + i) n) leaf ds made size) e ∙ ap (λ is. Defs.expand_all f is leaf ds made size) (inits-none f (first + i)));
       }
 
-  module _ {source : List ℕ} (gv : Ready f source known store) (hr : first + many ≤ count f entries) (h : i < many) {r : Listed} {new : List ℕ}
+  module _ (gv : Ready f known store) (hr : first + many ≤ count f entries) (h : i < many) {r : Listed} {new : List ℕ}
       (w : Expands f known store (first + i) leaf (now_at l from made size) s to r new) where
     all-ready : (M : Memo) → Memory f known store M → (ds : Trees) → Fillable old l at 0 ds → at + 24576 * (run_depth f first many + shapes_deep f) ≤ length old + 6 * suc l.size
         → Fillable s (now_at l from made size) to (rooms f (entry_depth f (first + i) - 1)) ds
@@ -217,7 +217,7 @@ module _ {f known store : List ℕ} {first many : ℕ} {leaf : Place} {l : Filli
 
 -- what stands for the next entry
 pub all_there : {f known store : List ℕ} {first many : ℕ} {leaf : Place} {l : Filling} {old : List ℕ} {at i from to made size : ℕ} {s : List ℕ} → AllInv f known store first many leaf l old at i from to made size s
-    → {source : List ℕ} → Ready f source known store → first + many ≤ count f entries → i < many → RunThere f first many old l at
+    → Ready f known store → first + many ≤ count f entries → i < many → RunThere f first many old l at
     → DefaultsThere s (now_at l from made size) to (rooms f (entry_depth f (first + i) - 1))
 all_there {f} {known} {store} {first} {many} {leaf} {l} {old} {at} {i} {from} {to} {made} {size} {s} y gv hr h z =
     let w = y.says gv.memo gv.memory z.trees z.ready z.room in

@@ -1,5 +1,7 @@
 // Entries: what they append to an array, and what they make of members. Each function calls back into the others; entries point only to entries that nest less
 // deep, and that is what falls.
+#![tactic(auto, using(crate::proofs::Building::asked))]
+
 ghost use Rattle.std.specs.Prelude.{◌≡◌, ◌+◌, ◌-◌, ◌*◌, ◌≤◌, ◌<◌};
 ghost use Rattle.definition.specs.Base.{on_link};
 ghost use Rattle.definition.specs.Depth.{entry_depth};
@@ -20,15 +22,13 @@ use gather::copies::{
 use gather::defaults::element_defaults;
 use gather::leaves::{push_simple, push_tree, put_simple};
 use places::place::leaf_place;
-use records::view::entry_at;
-use tree::extent::Extent;
+use records::file::File;
 use tree::node::write_array;
 
 // The values that an entry appends to an array's, for places like `leaf`, where the array's defaults stand in the room.
 #[cycle(entries_of_places)]
 pub fn expand(
-    file: &[u32],
-    source: &[usize],
+    file: &File<'_>,
     known: &[u32],
     store: &[u32],
     e: u32,
@@ -37,26 +37,25 @@ pub fn expand(
     room: &mut [u32],
     at: usize,
 ) -> Listed
-    requires { Ready file.now source.now known.now store.now × PlaceIn file.now leaf × (e < Layout.count file.now entries) × DefaultsThere room.old l at (rooms file.now (entry_depth file.now e - 1)) }
-    ensures { Expands file.now known.now store.now e leaf l room.old at result room.new }
+    requires { Ready file.now.source known.now store.now × PlaceIn file.now.source leaf × (e < Layout.count file.now.source entries) × DefaultsThere room.old l at (rooms file.now.source (entry_depth file.now.source e - 1)) }
+    ensures { Expands file.now.source known.now store.now e leaf l room.old at result room.new }
 {
-    let entry = entry_at(file, source, e);
+    let entry = file.source.entry(e);
     match entry {
         Entry::Structure { first, count } => {
-            push_structure(file, source, known, store, first, count, leaf, l, room, at)
+            push_structure(file, known, store, first, count, leaf, l, room, at)
         }
         Entry::Repeat { count, inner } => {
-            push_repeat(file, source, known, store, count, inner, leaf, l, room, at)
+            push_repeat(file, known, store, count, inner, leaf, l, room, at)
         }
-        _ => push_simple(file, source, e, leaf, l, room, at),
+        _ => push_simple(file, e, leaf, l, room, at),
     }
 }
 
 // n(..) repeats an entry; n() takes each place's own default.
 #[cycle(entries_of_places)]
 pub fn push_repeat(
-    file: &[u32],
-    source: &[usize],
+    file: &File<'_>,
     known: &[u32],
     store: &[u32],
     times: u32,
@@ -66,31 +65,19 @@ pub fn push_repeat(
     room: &mut [u32],
     at: usize,
 ) -> Listed
-    requires { Ready file.now source.now known.now store.now × PlaceIn file.now leaf × EntryLink file.now link × DefaultsThere room.old l at (rooms file.now (on_link link 0 (entry_depth file.now))) }
-    ensures { Repeats file.now known.now store.now times link leaf l room.old at result room.new }
+    requires { Ready file.now.source known.now store.now × PlaceIn file.now.source leaf × EntryLink file.now.source link × DefaultsThere room.old l at (rooms file.now.source (on_link link 0 (entry_depth file.now.source))) }
+    ensures { Repeats file.now.source known.now store.now times link leaf l room.old at result room.new }
 {
     if link == 0 {
         return push_defaults(times as usize, l, room, at);
     }
-    repeat_entry(
-        file,
-        source,
-        known,
-        store,
-        times,
-        link - 1,
-        leaf,
-        l,
-        room,
-        at,
-    )
+    repeat_entry(file, known, store, times, link - 1, leaf, l, room, at)
 }
 
 // The entry is expanded once, and copied.
 #[cycle(entries_of_places)]
 pub fn repeat_entry(
-    file: &[u32],
-    source: &[usize],
+    file: &File<'_>,
     known: &[u32],
     store: &[u32],
     times: u32,
@@ -100,22 +87,21 @@ pub fn repeat_entry(
     room: &mut [u32],
     at: usize,
 ) -> Listed
-    requires { Ready file.now source.now known.now store.now × PlaceIn file.now leaf × (e < Layout.count file.now entries) × DefaultsThere room.old l at (rooms file.now (entry_depth file.now e)) }
-    ensures { RepeatsEntry file.now known.now store.now times e leaf l room.old at result room.new }
+    requires { Ready file.now.source known.now store.now × PlaceIn file.now.source leaf × (e < Layout.count file.now.source entries) × DefaultsThere room.old l at (rooms file.now.source (entry_depth file.now.source e)) }
+    ensures { RepeatsEntry file.now.source known.now store.now times e leaf l room.old at result room.new }
 {
     if l.places < times as usize {
         return Listed::None;
     }
     let left = remaining(l);
-    let r = expand(file, source, known, store, e, leaf, left, room, at);
+    let r = expand(file, known, store, e, leaf, left, room, at);
     push_copies(r, times as usize, l, room, at)
 }
 
 // Members over the default of the next place.
 #[cycle(entries_of_places)]
 pub fn push_structure(
-    file: &[u32],
-    source: &[usize],
+    file: &File<'_>,
     known: &[u32],
     store: &[u32],
     first: u32,
@@ -125,24 +111,21 @@ pub fn push_structure(
     room: &mut [u32],
     at: usize,
 ) -> Listed
-    requires { Ready file.now source.now known.now store.now × PlaceIn file.now leaf × (first + count ≤ Layout.count file.now entries) × DefaultsThere room.old l at (rooms file.now (run_depth file.now first count)) }
-    ensures { ExpandsStructure file.now known.now store.now first count leaf l room.old at result room.new }
+    requires { Ready file.now.source known.now store.now × PlaceIn file.now.source leaf × (first + count ≤ Layout.count file.now.source entries) × DefaultsThere room.old l at (rooms file.now.source (run_depth file.now.source first count)) }
+    ensures { ExpandsStructure file.now.source known.now store.now first count leaf l room.old at result room.new }
 {
     let b = copy_default(l, room, at);
     let Built::Ends(end) = b else {
         return Listed::None;
     };
-    let r = apply_members(
-        file, source, known, store, first, count, leaf, room, at, end,
-    );
+    let r = apply_members(file, known, store, first, count, leaf, room, at, end);
     push_tree(r, l, at)
 }
 
 // A run of entries, one behind the other.
 #[cycle(entries_of_places)]
 pub fn expand_all(
-    file: &[u32],
-    source: &[usize],
+    file: &File<'_>,
     known: &[u32],
     store: &[u32],
     first: u32,
@@ -152,8 +135,8 @@ pub fn expand_all(
     room: &mut [u32],
     at: usize,
 ) -> Listed
-    requires { Ready file.now source.now known.now store.now × PlaceIn file.now leaf × (first + count ≤ Layout.count file.now entries) × RunThere file.now first count room.old l at }
-    ensures { ExpandsAll file.now known.now store.now first count leaf l room.old at result room.new }
+    requires { Ready file.now.source known.now store.now × PlaceIn file.now.source leaf × (first + count ≤ Layout.count file.now.source entries) × RunThere file.now.source first count room.old l at }
+    ensures { ExpandsAll file.now.source known.now store.now first count leaf l room.old at result room.new }
 {
     let mut i: u32 = 0;
     let mut from = l.from;
@@ -163,7 +146,6 @@ pub fn expand_all(
     while i < count {
         let r = expand(
             file,
-            source,
             known,
             store,
             first + i,
@@ -201,8 +183,7 @@ pub fn expand_all(
 // An array of a run of entries: its head, then the rest of the room is lent to be filled with them.
 #[cycle(entries_of_places)]
 pub fn array(
-    file: &[u32],
-    source: &[usize],
+    file: &File<'_>,
     known: &[u32],
     store: &[u32],
     place: Place,
@@ -211,32 +192,22 @@ pub fn array(
     room: &mut [u32],
     at: usize,
 ) -> Built
-    requires { Ready file.now source.now known.now store.now × PlaceIn file.now place × (first + count ≤ Layout.count file.now entries) × RoomThere room.old at (rooms file.now (run_depth file.now first count)) }
-    ensures { BuildsArray file.now known.now store.now place first count room.old at result room.new }
+    requires { Ready file.now.source known.now store.now × PlaceIn file.now.source place × (first + count ≤ Layout.count file.now.source entries) × RoomThere room.old at (rooms file.now.source (run_depth file.now.source first count)) }
+    ensures { BuildsArray file.now.source known.now store.now place first count room.old at result room.new }
 {
     match write_array(room, at, 0) {
-        Extent::Ends(from) => {
-            let r = fill(
-                file,
-                source,
-                known,
-                store,
-                place,
-                first,
-                count,
-                &mut room[from..],
-            );
+        Some(from) => {
+            let r = fill(file, known, store, place, first, count, &mut room[from..]);
             array_head(r, at, from, room)
         }
-        Extent::Not => Built::None,
+        None => Built::None,
     }
 }
 
 // Its element defaults, and the values of the entries over them.
 #[cycle(entries_of_places)]
 pub fn fill(
-    file: &[u32],
-    source: &[usize],
+    file: &File<'_>,
     known: &[u32],
     store: &[u32],
     place: Place,
@@ -244,10 +215,10 @@ pub fn fill(
     count: u32,
     room: &mut [u32],
 ) -> Listed
-    requires { Ready file.now source.now known.now store.now × PlaceIn file.now place × (first + count ≤ Layout.count file.now entries) × RoomThere room.old 0 (12282 + 24576 * (run_depth file.now first count + shapes_deep file.now)) }
-    ensures { FillsArray file.now known.now store.now place first count room.old result room.new }
+    requires { Ready file.now.source known.now store.now × PlaceIn file.now.source place × (first + count ≤ Layout.count file.now.source entries) × RoomThere room.old 0 (12282 + 24576 * (run_depth file.now.source first count + shapes_deep file.now.source)) }
+    ensures { FillsArray file.now.source known.now store.now place first count room.old result room.new }
 {
-    let d = element_defaults(file, source, known, store, place, room, 0);
+    let d = element_defaults(file, known, store, place, room, 0);
     let Listed::Ends {
         end,
         made: places,
@@ -256,16 +227,13 @@ pub fn fill(
     else {
         return d;
     };
-    fill_values(
-        file, source, known, store, place, first, count, places, room, end,
-    )
+    fill_values(file, known, store, place, first, count, places, room, end)
 }
 
 // The values stand behind the defaults, and take the place of the leading ones.
 #[cycle(entries_of_places)]
 pub fn fill_values(
-    file: &[u32],
-    source: &[usize],
+    file: &File<'_>,
     known: &[u32],
     store: &[u32],
     place: Place,
@@ -275,25 +243,24 @@ pub fn fill_values(
     room: &mut [u32],
     end: usize,
 ) -> Listed
-    requires { Ready file.now source.now known.now store.now × PlaceIn file.now place × (first + count ≤ Layout.count file.now entries) × ValuesThere file.now first count places room.old end }
-    ensures { FillsValues file.now known.now store.now place first count places room.old end result room.new }
+    requires { Ready file.now.source known.now store.now × PlaceIn file.now.source place × (first + count ≤ Layout.count file.now.source entries) × ValuesThere file.now.source first count places room.old end }
+    ensures { FillsValues file.now.source known.now store.now place first count places room.old end result room.new }
 {
-    let leaf = leaf_place(file, source, known, place);
+    let leaf = leaf_place(file, known, place);
     let l = Filling {
         from: 0,
         places,
         made: 0,
         size: 0,
     };
-    let r = expand_all(file, source, known, store, first, count, leaf, l, room, end);
+    let r = expand_all(file, known, store, first, count, leaf, l, room, end);
     fill_rest(r, end, places, room)
 }
 
 // A member list over the structure that stands in the room (`members`).
 #[cycle(entries_of_places)]
 pub fn apply_members(
-    file: &[u32],
-    source: &[usize],
+    file: &File<'_>,
     known: &[u32],
     store: &[u32],
     first: u32,
@@ -303,13 +270,13 @@ pub fn apply_members(
     at: usize,
     end: usize,
 ) -> Built
-    requires { Ready file.now source.now known.now store.now × PlaceIn file.now place × (first + count ≤ Layout.count file.now entries) × FieldsThere room.old at end (rooms file.now (run_depth file.now first count)) }
-    ensures { Applies file.now known.now store.now first count place room.old at end result room.new }
+    requires { Ready file.now.source known.now store.now × PlaceIn file.now.source place × (first + count ≤ Layout.count file.now.source entries) × FieldsThere room.old at end (rooms file.now.source (run_depth file.now.source first count)) }
+    ensures { Applies file.now.source known.now store.now first count place room.old at end result room.new }
 {
     let mut i: u32 = 0;
     let mut upto = end;
     while i < count {
-        let r = set_member(file, source, known, store, first + i, place, room, at, upto);
+        let r = set_member(file, known, store, first + i, place, room, at, upto);
         let Built::Ends(e) = r else {
             return r;
         };
@@ -322,8 +289,7 @@ pub fn apply_members(
 // One member of the list.
 #[cycle(entries_of_places)]
 pub fn set_member(
-    file: &[u32],
-    source: &[usize],
+    file: &File<'_>,
     known: &[u32],
     store: &[u32],
     e: u32,
@@ -332,10 +298,10 @@ pub fn set_member(
     at: usize,
     end: usize,
 ) -> Built
-    requires { Ready file.now source.now known.now store.now × PlaceIn file.now place × (e < Layout.count file.now entries) × FieldsThere room.old at end (12288 + rooms file.now (entry_depth file.now e - 1)) }
-    ensures { SetsMember file.now known.now store.now e place room.old at end result room.new }
+    requires { Ready file.now.source known.now store.now × PlaceIn file.now.source place × (e < Layout.count file.now.source entries) × FieldsThere room.old at end (12288 + rooms file.now.source (entry_depth file.now.source e - 1)) }
+    ensures { SetsMember file.now.source known.now store.now e place room.old at end result room.new }
 {
-    let t = find_field(file, source, known, e, place, &room[..], at);
+    let t = find_field(file, known, e, place, &room[..], at);
     let Target::At {
         begin,
         end: upto,
@@ -345,15 +311,14 @@ pub fn set_member(
     else {
         return Built::None;
     };
-    let r = member(file, source, known, store, e, inner, begin, upto, room, end);
+    let r = member(file, known, store, e, inner, begin, upto, room, end);
     put_member(r, at, end, begin, upto, name, room)
 }
 
 // What an entry gives a member, whose value so far stands in the room.
 #[cycle(entries_of_places)]
 pub fn member(
-    file: &[u32],
-    source: &[usize],
+    file: &File<'_>,
     known: &[u32],
     store: &[u32],
     e: u32,
@@ -363,28 +328,25 @@ pub fn member(
     room: &mut [u32],
     at: usize,
 ) -> Built
-    requires { Ready file.now source.now known.now store.now × PlaceIn file.now place × (e < Layout.count file.now entries) × ValueThere room.old begin upto at (rooms file.now (entry_depth file.now e - 1)) }
-    ensures { BuildsMember file.now known.now store.now e place begin upto room.old at result room.new }
+    requires { Ready file.now.source known.now store.now × PlaceIn file.now.source place × (e < Layout.count file.now.source entries) × ValueThere room.old begin upto at (rooms file.now.source (entry_depth file.now.source e - 1)) }
+    ensures { BuildsMember file.now.source known.now store.now e place begin upto room.old at result room.new }
 {
-    let entry = entry_at(file, source, e);
+    let entry = file.source.entry(e);
     match entry {
-        Entry::Array { first, count } => array(
-            file, source, known, store, place, first, count, room, at,
-        ),
+        Entry::Array { first, count } => array(file, known, store, place, first, count, room, at),
         Entry::Structure { first, count } => {
             member_structure(
-                file, source, known, store, first, count, place, begin, upto, room, at,
+                file, known, store, first, count, place, begin, upto, room, at,
             )
         }
-        _ => put_simple(file, source, e, place, room, at),
+        _ => put_simple(file, e, place, room, at),
     }
 }
 
 // Members over the value that a member has so far: a structure is taken apart or the answer is none.
 #[cycle(entries_of_places)]
 pub fn member_structure(
-    file: &[u32],
-    source: &[usize],
+    file: &File<'_>,
     known: &[u32],
     store: &[u32],
     first: u32,
@@ -395,14 +357,12 @@ pub fn member_structure(
     room: &mut [u32],
     at: usize,
 ) -> Built
-    requires { Ready file.now source.now known.now store.now × PlaceIn file.now place × (first + count ≤ Layout.count file.now entries) × ValueThere room.old begin upto at (rooms file.now (run_depth file.now first count)) }
-    ensures { BuildsStructure file.now known.now store.now first count place begin upto room.old at result room.new }
+    requires { Ready file.now.source known.now store.now × PlaceIn file.now.source place × (first + count ≤ Layout.count file.now.source entries) × ValueThere room.old begin upto at (rooms file.now.source (run_depth file.now.source first count)) }
+    ensures { BuildsStructure file.now.source known.now store.now first count place begin upto room.old at result room.new }
 {
     let b = copy_structure(room, begin, upto, at);
     let Built::Ends(end) = b else {
         return b;
     };
-    apply_members(
-        file, source, known, store, first, count, place, room, at, end,
-    )
+    apply_members(file, known, store, first, count, place, room, at, end)
 }

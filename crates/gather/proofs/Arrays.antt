@@ -19,11 +19,7 @@ use Rattle.definition.specs.Peek.{got, peek}
 use Rattle.laws.specs.Gathers.{Gathered, good-array, array-nameless}
 use Rattle.laws.specs.Steps.{peek-done, peek-give, peek-ok, peek-none, peek-large, peek-wanted}
 use Rattle.laws.specs.Whole.{flatten_all-length, flatten_all-join, goods-filled, nodes-some, nodes-headed}
-use Rattle.tree.specs.declared.extent.Extent.{Extent}
-use Rattle.tree.specs.declared.extent.Extent.TheVariants as extent
-use Rattle.tree_changes.specs.declared.grow.Span.{Span}
-use Rattle.tree_changes.specs.declared.grow.Grown.{Grown}
-use Rattle.tree_changes.specs.declared.grow.Grown.TheVariants as grown
+use Rattle.tree.specs.declared.extent.Span.{Span}
 use Rattle.tree.specs.Words.{Stand, WroteNode}
 use Rattle.tree.specs.Node.{head_words}
 use Rattle.tree.specs.Extent.{after_of}
@@ -40,6 +36,10 @@ use Rattle.gather.specs.Room.{whole}
 use Rattle.gather.specs.Copies.{FillsOver, FillsRest, PutsHead, Heads}
 use Rattle.gather.proofs.Onward.{lists-as, lists-same, builds-same}
 use Rattle.gather.proofs.Single.{node_kept}
+use Rattle.std.specs.Prelude.{Err, None, Ok, Option, Some}
+use Rattle.std.specs.Prelude as std
+use Rattle.tree_changes.specs.declared.grow.Unfit.TheVariants as unfit
+use Rattle.tree_changes.specs.declared.grow.Unfit.{Unfit}
 
 -- ---- the test of what is gathered
 module _ (M : Memo) (size : ℕ) (ts : Trees) where
@@ -54,12 +54,12 @@ module _ (M : Memo) (size : ℕ) (ts : Trees) where
 -- ---- what `replace` answers of spans in order
 pub replaced-is : (len : ℕ) (tree part fresh : Span) → in_order tree part fresh ≡ true
     → (part.begin - tree.begin + moved tree part fresh ≤ 12288 → fresh.end + tail tree part ≤ len)
-    → replaced_of len tree part fresh ≡ pick (leb (part.begin - tree.begin + moved tree part fresh) (most_nodes * 6)) (grown.Ends (part.begin + moved tree part fresh)) grown.TooLarge
+    → replaced_of len tree part fresh ≡ pick (leb (part.begin - tree.begin + moved tree part fresh) (most_nodes * 6)) (Ok (part.begin + moved tree part fresh)) (Err unfit.TooLarge)
 replaced-is len tree part fresh o h = rw o (go (leb (part.begin - tree.begin + moved tree part fresh) (most_nodes * 6)) refl)
   where
     go : (b : Bool) → leb (part.begin - tree.begin + moved tree part fresh) (most_nodes * 6) ≡ b
-        → pick b (pick (leb (fresh.end + tail tree part) len) (grown.Ends (part.begin + moved tree part fresh)) grown.Not) grown.TooLarge
-        ≡ pick b (grown.Ends (part.begin + moved tree part fresh)) grown.TooLarge
+        → pick b (pick (leb (fresh.end + tail tree part) len) (Ok (part.begin + moved tree part fresh)) (Err unfit.Outside)) (Err unfit.TooLarge)
+        ≡ pick b (Ok (part.begin + moved tree part fresh)) (Err unfit.TooLarge)
     go true e = let k = leb-true (part.begin - tree.begin + moved tree part fresh) (most_nodes * 6) e in rw (le-leb (fresh.end + tail tree part) len (h (omega arith)))
     go false e = refl
 
@@ -77,7 +77,7 @@ many-nodes (tcons t ts) = omega (arith, many-nodes ts, nodes-some t)
 stand-none : (s : List ℕ) → Stand s 0 [] 0
 stand-none s = rest-stand s 0 [] s (omega arith) refl
 
-module _ (end values made places : ℕ) (old : List ℕ) {x : Extent} (q : x ≡ after_of old 0 made) where
+module _ (end values made places : ℕ) (old : List ℕ) {x : Option ℕ} (q : x ≡ after_of old 0 made) where
   abbrev tree_of : Span
   tree_of = record { begin = 0; end = end }
 
@@ -93,7 +93,7 @@ module _ (end values made places : ℕ) (old : List ℕ) {x : Extent} (q : x ≡
     filled-count : many (filled ds vs) ≡ places
     filled-count = many-filled ds vs (omega arith) ∙ dm
 
-    module _ {part : ℕ} (i : x ≡ extent.Ends part) where
+    module _ {part : ℕ} (i : x ≡ Some part) where
       abbrev gives : Span
       gives = record { begin = 0; end = part }
 
@@ -108,31 +108,31 @@ module _ (end values made places : ℕ) (old : List ℕ) {x : Extent} (q : x ≡
           let a = spliced-size {old = old} {tree = tree_of} {part = gives} {fresh = fresh} (stand-none old) vst back-there in
           omega (arith, a, ap length filled-words, flatten_all-length (filled ds vs))
 
-      answer-is : replaced_of (length old) tree_of gives fresh ≡ pick (leb (0 - 0 + moved tree_of gives fresh) (most_nodes * 6)) (grown.Ends (0 + moved tree_of gives fresh)) grown.TooLarge
+      answer-is : replaced_of (length old) tree_of gives fresh ≡ pick (leb (0 - 0 + moved tree_of gives fresh) (most_nodes * 6)) (Ok (0 + moved tree_of gives fresh)) (Err unfit.TooLarge)
       answer-is =
           replaced-is (length old) tree_of gives fresh
           (in_order_lem tree_of gives fresh (omega arith) (omega arith) (omega (arith, back-there.long)) (omega arith) (omega (arith, vst.long)))
           (λ h. omega (arith, h, size_is))
 
-      module _ {g : Grown} {new : List ℕ} (w : Replaced old tree_of gives fresh g new) where
-        by_size : (P : Type 0) → (nodes_in (filled ds vs) ≤ most_nodes → g ≡ grown.Ends (6 * nodes_in (filled ds vs)) → P) → (most_nodes < nodes_in (filled ds vs) → g ≡ grown.TooLarge → P) → P
+      module _ {g : std.Result ℕ Unfit} {new : List ℕ} (w : Replaced old tree_of gives fresh g new) where
+        by_size : (P : Type 0) → (nodes_in (filled ds vs) ≤ most_nodes → g ≡ Ok (6 * nodes_in (filled ds vs)) → P) → (most_nodes < nodes_in (filled ds vs) → g ≡ (Err unfit.TooLarge) → P) → P
         by_size P a b = go (leb (0 - 0 + moved tree_of gives fresh) (most_nodes * 6)) refl (w.says ∙ answer-is)
           where
-            go : (c : Bool) → leb (0 - 0 + moved tree_of gives fresh) (most_nodes * 6) ≡ c → g ≡ pick c (grown.Ends (0 + moved tree_of gives fresh)) grown.TooLarge → P
+            go : (c : Bool) → leb (0 - 0 + moved tree_of gives fresh) (most_nodes * 6) ≡ c → g ≡ pick c (Ok (0 + moved tree_of gives fresh)) (Err unfit.TooLarge) → P
             go true e z =
                 let l = leb-true (0 - 0 + moved tree_of gives fresh) (most_nodes * 6) e in
                 let k : 0 + moved tree_of gives fresh ≡ 6 * nodes_in (filled ds vs) = omega (arith, size_is) in
-                a (omega (arith, size_is)) (z ∙ ap grown.Ends k)
+                a (omega (arith, size_is)) (z ∙ ap Ok k)
             go false e z = let l = leb-false (0 - 0 + moved tree_of gives fresh) (most_nodes * 6) e in b (omega (arith, size_is)) z
 
-        filled-stands : (e : ℕ) → g ≡ grown.Ends e → Stand new 0 (flatten_all (filled ds vs)) (0 + moved tree_of gives fresh)
+        filled-stands : (e : ℕ) → g ≡ Ok e → Stand new 0 (flatten_all (filled ds vs)) (0 + moved tree_of gives fresh)
         filled-stands e z =
             let u : Spliced old tree_of gives fresh new = rw z at w.wrote in
             rw filled-words (spliced-words {old = old} {tree = tree_of} {part = gives} {fresh = fresh} (stand-none old) vst back-there u)
 
-  module _ {part : ℕ} (i : x ≡ extent.Ends part) {g : Grown} {new : List ℕ}
+  module _ {part : ℕ} (i : x ≡ Some part) {g : std.Result ℕ Unfit} {new : List ℕ}
       (w : Replaced old (record { begin = 0; end = end }) (record { begin = 0; end = part }) (record { begin = end; end = values }) g new) where
-    module _ {to : ℕ} (j : g ≡ grown.Ends to) {b : Bool} (t : b ≡ leb (suc (0 + to / 6)) most_nodes) where
+    module _ {to : ℕ} (j : g ≡ Ok to) {b : Bool} (t : b ≡ leb (suc (0 + to / 6)) most_nodes) where
       pub over-ends : b ≡ true → FillsOver end values made places old (listed.Ends to places (to / 6)) new
       over-ends v =
           record {
@@ -168,23 +168,25 @@ module _ (end values made places : ℕ) (old : List ℕ) {x : Extent} (q : x ≡
                 (λ h z. gathered-large M 0 (filled ds vs) (omega arith));
           }
 
-    pub over-large : g ≡ grown.TooLarge → FillsOver end values made places old listed.TooLarge new
-    over-large j =
+    pub over-large : {u : Unfit} → g ≡ Err u → u ≡ unfit.TooLarge → FillsOver end values made places old listed.TooLarge new
+    over-large h z =
+        let j : g ≡ Err unfit.TooLarge = cc in
         record {
           says = λ M ds vs dm dg dst vm vf vg vst room. by_size ds vs dm dg dst vm vf vg vst room i w _
               (λ h z. let n : ◌≡◌ {A = ℕ} 0 1 = cc in absurd (omega arith))
               (λ h z. gathered-large M 0 (filled ds vs) (omega arith));
         }
 
-    pub over-not : g ≡ grown.Not → FillsOver end values made places old listed.None new
-    over-not j =
+    pub over-not : {u : Unfit} → g ≡ Err u → u ≡ unfit.Outside → FillsOver end values made places old listed.None new
+    over-not h z =
+        let j : g ≡ Err unfit.Outside = cc in
         record {
           says = λ M ds vs dm dg dst vm vf vg vst room. by_size ds vs dm dg dst vm vf vg vst room i w _
               (λ h z. let n : ◌≡◌ {A = ℕ} 0 1 = cc in absurd (omega arith))
               (λ h z. let n : ◌≡◌ {A = ℕ} 0 1 = cc in absurd (omega arith));
         }
 
-  pub over-past : x ≡ extent.Not → FillsOver end values made places old listed.None old
+  pub over-past : x ≡ None → FillsOver end values made places old listed.None old
   over-past j =
       record {
         says = λ M ds vs dm dg dst vm vf vg vst room.
@@ -239,8 +241,8 @@ module _ (end made at from : ℕ) {count : ℕ} (cw : made ≤ 2047 → count �
   count-is : (ts : Trees) → made ≡ many ts → Gathered 0 ts → count ≡ many ts
   count-is ts mm g = cw (omega (arith, many-nodes ts, g.room)) ∙ mm
 
-  module _ {y : Extent} {new : List ℕ} (w : WroteNode old at (head_words 13 count) y new) where
-    pub head-ends : {e : ℕ} → y ≡ extent.Ends e → PutsHead end made at from old (built.Ends (from + end)) new
+  module _ {y : Option ℕ} {new : List ℕ} (w : WroteNode old at (head_words 13 count) y new) where
+    pub head-ends : {e : ℕ} → y ≡ Some e → PutsHead end made at from old (built.Ends (from + end)) new
     head-ends i =
         record {
           kept = node_kept w;
@@ -260,7 +262,7 @@ module _ (end made at from : ℕ) {count : ℕ} (cw : made ≤ 2047 → count �
               };
         }
 
-    pub head-full : y ≡ extent.Not → PutsHead end made at from old built.None new
+    pub head-full : y ≡ None → PutsHead end made at from old built.None new
     head-full i =
         record {
           kept = node_kept w;

@@ -23,14 +23,8 @@ use Rattle.laws.specs.Cases.{both}
 use Rattle.laws.specs.Gathers.{gathered-rest}
 use Rattle.laws.specs.Steps.{peek-done, peek-ok, peek-none, peek-large, peek-wanted, peek-nothing}
 use Rattle.laws.specs.Whole.{Good, Goods, flatten-length, flatten_all-length, nodes-some, many-one, nodes_in-one, flatten_all-one, goods-one, many-rest, many-times, nodes_in-times, nodes_in-rest, goods-times}
-use Rattle.tree.specs.declared.extent.Extent.{Extent}
-use Rattle.tree.specs.declared.extent.Extent.TheVariants as extent
 use Rattle.tree.specs.declared.part.Value.{Value}
 use Rattle.tree.specs.declared.part.Value.TheVariants as value
-use Rattle.tree_changes.specs.declared.grow.Grown.{Grown}
-use Rattle.tree_changes.specs.declared.grow.Grown.TheVariants as grown
-use Rattle.tree_changes.specs.declared.limit.Added.{Added}
-use Rattle.tree_changes.specs.declared.limit.Added.TheVariants as more
 use Rattle.tree.specs.Words.{Stand, WroteNode, WroteShift, movable, apart, rept}
 use Rattle.tree.specs.Node.{head_words}
 use Rattle.tree.specs.Extent.{after_of, whole_of}
@@ -51,6 +45,13 @@ use Rattle.gather.specs.Room.{Defaults, Fillable, Current}
 use Rattle.gather.specs.Copies.{TakesFirst, CopiesWords, PushesWords, CopiesFields, CopiesStructure, CopiesDefault, MovesOn, Remains, CopiesList, PushesCopies, NextDefault}
 use Rattle.gather.proofs.Onward.{lists-as, lists-same}
 use Rattle.gather.proofs.Single.{paste-kept, wrote_kept, node_kept}
+use Rattle.std.specs.Prelude.{Err, None, Ok, Option, Some}
+use Rattle.std.specs.Prelude as std
+use Rattle.tree_changes.specs.declared.grow.Unfit.TheVariants as unfit
+use Rattle.tree_changes.specs.declared.grow.Unfit.{Unfit}
+use Rattle.tree_changes.specs.declared.limit.Misfit.TheVariants as misfit
+use Rattle.tree_changes.specs.declared.limit.Misfit.{Misfit}
+use Rattle.tree_changes.specs.Limit.{Added}
 
 -- ---- `copy_words`
 or-true : (b : Bool) → b || true ≡ true
@@ -66,10 +67,10 @@ movable-target len from n to e =
     let y = leb-true (to + n) len (both (leb (from + n) len) (leb (to + n) len) z.0).1 in
     omega arith
 
-pub words-apart : (from to : ℕ) (old : List ℕ) (at : ℕ) → to < from → CopiesWords from to old at extent.Not old
+pub words-apart : (from to : ℕ) (old : List ℕ) (at : ℕ) → to < from → CopiesWords from to old at None old
 words-apart from to old at h = record { kept = refl; says = λ ws x b room. absurd (omega (arith, x.long)) }
 
-pub words-shift : (from to : ℕ) (old : List ℕ) (at : ℕ) {r : Extent} {new : List ℕ} → from ≤ to → WroteShift old from (to - from) at r new → CopiesWords from to old at r new
+pub words-shift : (from to : ℕ) (old : List ℕ) (at : ℕ) {r : Option ℕ} {new : List ℕ} → from ≤ to → WroteShift old from (to - from) at r new → CopiesWords from to old at r new
 words-shift from to old at {r} {new} h w =
     record {
       kept = wrote_kept (movable (length old) from (to - from) at) (movable-target (length old) from (to - from) at) w;
@@ -87,15 +88,15 @@ structure-is : (ts : Trees) → structure_tree ts ≡ headed 14 ts
 unfolding structure_tree
 structure-is ts = refl
 
-module _ {begin end : ℕ} (count : ℕ) {old : List ℕ} {at : ℕ} {x : Extent} {mid : List ℕ} (w : CopiesWords begin end old at x mid) where
-  fields-words : (t : Tree) → Current old begin end t at 12288 → (x ≡ extent.Ends (at + length (flatten t))) × Stand mid at (flatten t) (at + length (flatten t))
+module _ {begin end : ℕ} (count : ℕ) {old : List ℕ} {at : ℕ} {x : Option ℕ} {mid : List ℕ} (w : CopiesWords begin end old at x mid) where
+  fields-words : (t : Tree) → Current old begin end t at 12288 → (x ≡ Some (at + length (flatten t))) × Stand mid at (flatten t) (at + length (flatten t))
   fields-words t c = w.says (flatten t) c.stands c.before (omega (arith, c.few, c.room, flatten-length t))
 
-  module _ {to : ℕ} (q : x ≡ extent.Ends to) {y : Extent} {new : List ℕ} (u : WroteNode mid at (head_words 14 count) y new) where
+  module _ {to : ℕ} (q : x ≡ Some to) {y : Option ℕ} {new : List ℕ} (u : WroteNode mid at (head_words 14 count) y new) where
     fields-kept : take at new ≡ take at old
     fields-kept = node_kept u ∙ w.kept
 
-    pub fields-end : {e : ℕ} → y ≡ extent.Ends e → CopiesFields begin end count old at (built.Ends to) new
+    pub fields-end : {e : ℕ} → y ≡ Some e → CopiesFields begin end count old at (built.Ends to) new
     fields-end i =
         record {
           kept = fields-kept;
@@ -112,7 +113,7 @@ module _ {begin end : ℕ} (count : ℕ) {old : List ℕ} {at : ℕ} {x : Extent
               };
         }
 
-    pub fields-full : y ≡ extent.Not → CopiesFields begin end count old at built.None new
+    pub fields-full : y ≡ None → CopiesFields begin end count old at built.None new
     fields-full i =
         record {
           kept = fields-kept;
@@ -123,7 +124,7 @@ module _ {begin end : ℕ} (count : ℕ) {old : List ℕ} {at : ℕ} {x : Extent
               let n : ◌≡◌ {A = ℕ} 0 1 = cc in absurd (omega arith);
         }
 
-  pub fields-not : x ≡ extent.Not → CopiesFields begin end count old at built.None mid
+  pub fields-not : x ≡ None → CopiesFields begin end count old at built.None mid
   fields-not q = record { kept = w.kept; says = λ t c k n. let z = fields-words t c in let n : ◌≡◌ {A = ℕ} 0 1 = cc z.0 in absurd (omega arith) }
 
 -- ---- `copy_structure`
@@ -131,28 +132,35 @@ value-structure : (t : Tree) → (head t).kind ≡ 14 → value_is t ≡ value.S
 unfolding value_is head parts
 value-structure (node h ts) e = rw e
 
-module _ (begin end : ℕ) {old : List ℕ} (at : ℕ) {v : Value} (q : v ≡ value_at old begin) where
-  pub structure-taken : {count : ℕ} → v ≡ value.Structure count → {r : Built} {new : List ℕ} → CopiesFields begin end count old at r new → CopiesStructure begin end old at r new
-  structure-taken {count} i w =
+module _ (begin end : ℕ) {old : List ℕ} (at : ℕ) {v : Option Value} (q : v ≡ value_at old begin) where
+  pub structure-taken : {x : Value} → v ≡ Some x → {count : ℕ} → x ≡ value.Structure count → {r : Built} {new : List ℕ} → CopiesFields begin end count old at r new → CopiesStructure begin end old at r new
+  structure-taken {x} a {count} b w =
       record {
         kept = w.kept;
         says = λ t c.
-            let z = kind-structure t count c.good (sym (value_there old begin t end c.good c.stands) ∙ sym q ∙ i) in
+            let i : v ≡ Some (value.Structure count) = cc in
+            let y : Some (value_is t) ≡ Some (value.Structure count) = sym (value_there old begin t end c.good c.stands) ∙ sym q ∙ i in
+            let z = kind-structure t count c.good (cc y) in
             w.says t c z.0 z.1;
       }
 
-  pub structure-other : ((count : ℕ) → v ≡ value.Structure count → ⊥) → CopiesStructure begin end old at built.None old
-  structure-other o =
+  pub structure-none : v ≡ None → CopiesStructure begin end old at built.None old
+  structure-none i = record { kept = refl; says = λ t c k. let y = value_there old begin t end c.good c.stands in cc }
+
+  pub structure-other : {x : Value} → v ≡ Some x → ((count : ℕ) → x ≡ value.Structure count → ⊥) → CopiesStructure begin end old at built.None old
+  structure-other {x} i o =
       record {
         kept = refl;
         says = λ t c k.
-            o (many (parts t)) (q ∙ value_there old begin t end c.good c.stands ∙ value-structure t k);
+            let y : Some x ≡ Some (value_is t) = sym i ∙ q ∙ value_there old begin t end c.good c.stands in
+            let z : x ≡ value_is t = cc in
+            o (many (parts t)) (z ∙ value-structure t k);
       }
 
 -- ---- `copy_default`
 -- the next default, where it stands
 record NextIn (s : List ℕ) (from : ℕ) (t : Tree) (e : ℕ) : Type 0 where
-  is : whole_of s from ≡ extent.Ends (from + 6 * nodes t)
+  is : whole_of s from ≡ Some (from + 6 * nodes t)
   stands : Stand s from (flatten t) (from + 6 * nodes t)
   inside : from + 6 * nodes t ≤ e
   good : Good t
@@ -175,7 +183,7 @@ module _ {l : Filling} {old : List ℕ} {at need : ℕ} {ds : Trees} (y : Fillab
   unfolding nodes
   next-few t us q = omega (arith, nodes_in-rest l.made ds, ap nodes_in q, y.defaults.whole.room)
 
-  next-current : {e : ℕ} → whole_of old l.from ≡ extent.Ends e → (t : Tree) (us : Trees) → rest l.made ds ≡ tcons t us → Current old l.from e t at need
+  next-current : {e : ℕ} → whole_of old l.from ≡ Some e → (t : Tree) (us : Trees) → rest l.made ds ≡ tcons t us → Current old l.from e t at need
   next-current {e} h t us q =
       let n = next-in t us q in
       let j : l.from + 6 * nodes t ≡ e = cc n.is in
@@ -189,15 +197,15 @@ module _ {l : Filling} {old : List ℕ} {at need : ℕ} {ds : Trees} (y : Fillab
   unfolding many
   some_left h q = omega (arith, many-rest l.made ds, ap many q, y.defaults.count)
 
-module _ (l : Filling) {old : List ℕ} (at : ℕ) {x : Extent} (q : x ≡ whole_of old l.from) (h : l.made < l.places) where
-  pub default-copied : {e : ℕ} → x ≡ extent.Ends e → {r : Built} {new : List ℕ} → CopiesStructure l.from e old at r new → CopiesDefault l old at r new
+module _ (l : Filling) {old : List ℕ} (at : ℕ) {x : Option ℕ} (q : x ≡ whole_of old l.from) (h : l.made < l.places) where
+  pub default-copied : {e : ℕ} → x ≡ Some e → {r : Built} {new : List ℕ} → CopiesStructure l.from e old at r new → CopiesDefault l old at r new
   default-copied i {r} {new} w = record { kept = w.kept; says = λ ds y. go ds y (rest l.made ds) refl }
     where
       go : (ds : Trees) → Fillable old l at 12288 ds → (us : Trees) → rest l.made ds ≡ us → TakesFirst us at r new
       go ds y tnil e = absurd (some_left y h e)
       go ds y (tcons t us) e = w.says t (next-current y (sym q ∙ i) t us e)
 
-  pub default-not : x ≡ extent.Not → CopiesDefault l old at built.None old
+  pub default-not : x ≡ None → CopiesDefault l old at built.None old
   default-not i = record { kept = refl; says = λ ds y. go ds y (rest l.made ds) refl }
     where
       go : (ds : Trees) → Fillable old l at 12288 ds → (us : Trees) → rest l.made ds ≡ us → TakesFirst us at built.None old
@@ -226,20 +234,22 @@ module _ (begin end : ℕ) (l : Filling) (old : List ℕ) (at : ℕ) {n : ℕ} (
       let f : added_of l.places l.made l.size (many (one t)) (nodes_in (one t)) ≡ a = rw (d, e) (sym q) in
       ap (peek M) (added_is l.places l.made l.size (one t)) ∙ peek-done M _ ∙ ap (λ x. got (outcome_of x (one t))) f
 
-  pub words-many : a ≡ more.TooMany → PushesWords begin end l old at listed.None old
-  words-many i = record { kept = refl; says = λ M t c room. words-peek M t c ∙ ap (λ x. got (outcome_of x (one t))) i }
+  pub words-many : {u : Misfit} → a ≡ Err u → u ≡ misfit.TooMany → PushesWords begin end l old at listed.None old
+  words-many h z =
+      let i : a ≡ Err misfit.TooMany = cc in record { kept = refl; says = λ M t c room. words-peek M t c ∙ ap (λ x. got (outcome_of x (one t))) i }
 
-  pub words-large : a ≡ more.TooLarge → PushesWords begin end l old at listed.TooLarge old
-  words-large i = record { kept = refl; says = λ M t c room. words-peek M t c ∙ ap (λ x. got (outcome_of x (one t))) i }
+  pub words-large : {u : Misfit} → a ≡ Err u → u ≡ misfit.TooLarge → PushesWords begin end l old at listed.TooLarge old
+  words-large h z =
+      let i : a ≡ Err misfit.TooLarge = cc in record { kept = refl; says = λ M t c room. words-peek M t c ∙ ap (λ x. got (outcome_of x (one t))) i }
 
-  module _ (i : a ≡ more.Fits) {y : Extent} {new : List ℕ} (w : CopiesWords begin end old at y new) where
+  module _ {u : Unit {0}} (i : a ≡ Ok u) {y : Option ℕ} {new : List ℕ} (w : CopiesWords begin end old at y new) where
     words-there : (t : Tree) → Current old begin end t at 0 → at + 12282 ≤ length old + 6 * l.size
-        → (y ≡ extent.Ends (at + length (flatten t))) × Stand new at (flatten t) (at + length (flatten t))
+        → (y ≡ Some (at + length (flatten t))) × Stand new at (flatten t) (at + length (flatten t))
     words-there t c room =
         let z = added-counts l.places l.made l.size 1 n (sym q ∙ i) in
         w.says (flatten t) c.stands c.before (omega (arith, z.0, words_count t c, flatten-length t))
 
-    pub words-pushed : {to : ℕ} → y ≡ extent.Ends to → PushesWords begin end l old at (listed.Ends to (l.made + 1) (l.size + n)) new
+    pub words-pushed : {to : ℕ} → y ≡ Some to → PushesWords begin end l old at (listed.Ends to (l.made + 1) (l.size + n)) new
     words-pushed {to} j =
         record {
           kept = w.kept;
@@ -263,22 +273,22 @@ module _ (begin end : ℕ) (l : Filling) (old : List ℕ) (at : ℕ) {n : ℕ} (
               };
         }
 
-    pub words-full : y ≡ extent.Not → PushesWords begin end l old at listed.None new
+    pub words-full : y ≡ None → PushesWords begin end l old at listed.None new
     words-full j = record { kept = w.kept; says = λ M t c room. let v = words-there t c room in let n : ◌≡◌ {A = ℕ} 0 1 = cc v.0 in absurd (omega arith) }
 
 -- ---- `next_default`
 abbrev next : Filling → Trees → Ask (Result Trees)
 next l us = on_first us (λ t ts. added l.places l.made l.size (one t))
 
-module _ (l : Filling) (old : List ℕ) (at : ℕ) {x : Extent} (q : x ≡ whole_of old l.from) (h : l.made < l.places) where
-  pub next-pushed : {e : ℕ} → x ≡ extent.Ends e → {r : Listed} {new : List ℕ} → PushesWords l.from e l old at r new → NextDefault l old at r new
+module _ (l : Filling) (old : List ℕ) (at : ℕ) {x : Option ℕ} (q : x ≡ whole_of old l.from) (h : l.made < l.places) where
+  pub next-pushed : {e : ℕ} → x ≡ Some e → {r : Listed} {new : List ℕ} → PushesWords l.from e l old at r new → NextDefault l old at r new
   next-pushed {e} i {r} {new} w = record { kept = w.kept; says = λ M ds z room. go M ds z room (rest l.made ds) refl }
     where
       go : (M : Memo) (ds : Trees) → Fillable old l at 0 ds → at + 12282 ≤ length old + 6 * l.size → (us : Trees) → rest l.made ds ≡ us → Lists M (next l us) l at r new
       go M ds z room tnil p = absurd (some_left z h p)
       go M ds z room (tcons t us) p = w.says M t (next-current z (sym q ∙ i) t us p) room
 
-  pub next-not : x ≡ extent.Not → NextDefault l old at listed.None old
+  pub next-not : x ≡ None → NextDefault l old at listed.None old
   next-not i = record { kept = refl; says = λ M ds z room. go M ds z (rest l.made ds) refl }
     where
       go : (M : Memo) (ds : Trees) → Fillable old l at 0 ds → (us : Trees) → rest l.made ds ≡ us → Lists M (next l us) l at listed.None old
@@ -309,13 +319,13 @@ rest-rest zero k ts = rw zero-add
 rest-rest (suc i) k tnil = let e : suc i + k ≡ suc (i + k) = omega arith in rw e (rest-nil k)
 rest-rest (suc i) k (tcons t ts) = let e : suc i + k ≡ suc (i + k) = omega arith in rw e (rest-rest i k ts)
 
-module _ {s : List ℕ} (from made more : ℕ) {k : ℕ} (c : k ≡ more - made) {x : Extent} (q : x ≡ after_of s from k) where
+module _ {s : List ℕ} (from made more : ℕ) {k : ℕ} (c : k ≡ more - made) {x : Option ℕ} (q : x ≡ after_of s from k) where
   moved-rest : (places : ℕ) (ds : Trees) (upto : ℕ) (d : Defaults s from made places ds upto) → made ≤ more → more ≤ places → Rest s from k (rest more ds) d.end
   moved-rest places ds upto d a b =
       let n : made + k ≡ more = omega arith in
       rw (rest-rest made k ds, n) at (rest-there s from (rest made ds) d.end k (gathered-rest made ds d.whole).whole d.stands (omega (arith, many-rest made ds, d.count)))
 
-  pub moved-from : {b : ℕ} → x ≡ extent.Ends b → MovesOn s from made more b
+  pub moved-from : {b : ℕ} → x ≡ Some b → MovesOn s from made more b
   moved-from {b} i =
       record {
         says = λ places ds upto d h e.
@@ -324,7 +334,7 @@ module _ {s : List ℕ} (from made more : ℕ) {k : ℕ} (c : k ≡ more - made)
             record { end = d.end; stands = rw j at r.stands; before = d.before; whole = d.whole; count = d.count };
       }
 
-  pub moved-not : x ≡ extent.Not → (r : ℕ) → MovesOn s from made more r
+  pub moved-not : x ≡ None → (r : ℕ) → MovesOn s from made more r
   moved-not i r = record { says = λ places ds upto d h e. let n = moved-rest places ds upto d h e in let z : ◌≡◌ {A = ℕ} 0 1 = cc n.is in absurd (omega arith) }
 
 -- ---- `remaining`
@@ -344,78 +354,78 @@ remains-from l {p} e =
     }
 
 -- ---- `copy_list`
-copied-few : (k places made size values nodes : ℕ) → copied_of (suc k) places made size values nodes ≡ more.Fits → made + suc k * values ≤ places
+copied-few : (k places made size values nodes : ℕ) {u : Unit {0}} → copied_of (suc k) places made size values nodes ≡ Ok u → made + suc k * values ≤ places
 unfolding copied_of
-copied-few zero places made size values nodes e = go (added_of places made size values nodes) refl e
+copied-few zero places made size values nodes {u} e = go (added_of places made size values nodes) refl e
   where
-    go : (a : Added) → added_of places made size values nodes ≡ a → on_fits a (copied_of zero places (made + values) (size + nodes) values nodes) ≡ more.Fits
+    go : (a : Added) → added_of places made size values nodes ≡ a → on_fits a (copied_of zero places (made + values) (size + nodes) values nodes) ≡ Ok u
         → made + suc zero * values ≤ places
-    go more.Fits q r = let z = added-counts places made size values nodes q in rw (suc-mul, zero-mul) (omega (arith, z.1))
-    go more.TooMany q r = let z : ◌≡◌ {A = ℕ} 0 1 = cc in absurd (omega arith)
-    go more.TooLarge q r = let z : ◌≡◌ {A = ℕ} 0 1 = cc in absurd (omega arith)
-copied-few (suc k) places made size values nodes e = go (added_of places made size values nodes) refl e (copied-few k places (made + values) (size + nodes) values nodes)
+    go (Ok v) q r = let z = added-counts places made size values nodes q in rw (suc-mul, zero-mul) (omega (arith, z.1))
+    go (Err misfit.TooMany) q r = let z : ◌≡◌ {A = ℕ} 0 1 = cc in absurd (omega arith)
+    go (Err misfit.TooLarge) q r = let z : ◌≡◌ {A = ℕ} 0 1 = cc in absurd (omega arith)
+copied-few (suc k) places made size values nodes {u} e = go (added_of places made size values nodes) refl e (copied-few k places (made + values) (size + nodes) values nodes)
   where
     left : Added
     left = copied_of (suc k) places (made + values) (size + nodes) values nodes
 
-    go : (a : Added) → added_of places made size values nodes ≡ a → on_fits a left ≡ more.Fits → (left ≡ more.Fits → made + values + suc k * values ≤ places)
+    go : (a : Added) → added_of places made size values nodes ≡ a → on_fits a left ≡ Ok u → (left ≡ Ok u → made + values + suc k * values ≤ places)
         → made + suc (suc k) * values ≤ places
-    go more.Fits q r ih = let z = ih r in rw suc-mul (omega (arith, z))
-    go more.TooMany q r ih = let z : ◌≡◌ {A = ℕ} 0 1 = cc in absurd (omega arith)
-    go more.TooLarge q r ih = let z : ◌≡◌ {A = ℕ} 0 1 = cc in absurd (omega arith)
+    go (Ok v) q r ih = let z = ih r in rw suc-mul (omega (arith, z))
+    go (Err misfit.TooMany) q r ih = let z : ◌≡◌ {A = ℕ} 0 1 = cc in absurd (omega arith)
+    go (Err misfit.TooLarge) q r ih = let z : ◌≡◌ {A = ℕ} 0 1 = cc in absurd (omega arith)
 
-copied-sized : (k places made size values nodes : ℕ) → copied_of (suc k) places made size values nodes ≡ more.Fits → suc (size + suc k * nodes) ≤ most_nodes
+copied-sized : (k places made size values nodes : ℕ) {u : Unit {0}} → copied_of (suc k) places made size values nodes ≡ Ok u → suc (size + suc k * nodes) ≤ most_nodes
 unfolding copied_of
-copied-sized k places made size values nodes e = go (added_of places made size values nodes) refl e
+copied-sized k places made size values nodes {u} e = go (added_of places made size values nodes) refl e
   where
-    go : (a : Added) → added_of places made size values nodes ≡ a → on_fits a (copied_of k places (made + values) (size + nodes) values nodes) ≡ more.Fits
+    go : (a : Added) → added_of places made size values nodes ≡ a → on_fits a (copied_of k places (made + values) (size + nodes) values nodes) ≡ Ok u
         → suc (size + suc k * nodes) ≤ most_nodes
-    go more.Fits q r =
+    go (Ok v) q r =
         let z = added-counts places made size values nodes q in
         let y = copied-small k places (made + values) (size + nodes) values nodes z.0 r in
         rw suc-mul (omega (arith, y))
-    go more.TooMany q r = let z : ◌≡◌ {A = ℕ} 0 1 = cc in absurd (omega arith)
-    go more.TooLarge q r = let z : ◌≡◌ {A = ℕ} 0 1 = cc in absurd (omega arith)
+    go (Err misfit.TooMany) q r = let z : ◌≡◌ {A = ℕ} 0 1 = cc in absurd (omega arith)
+    go (Err misfit.TooLarge) q r = let z : ◌≡◌ {A = ℕ} 0 1 = cc in absurd (omega arith)
 
 -- what is counted fits
-module _ (k places made size values nodes : ℕ) {a : Added} (q : a ≡ copied_of k places made size values nodes) (i : a ≡ more.Fits) where
+module _ (k places made size values nodes : ℕ) {a : Added} (q : a ≡ copied_of k places made size values nodes) {u : Unit {0}} (i : a ≡ Ok u) where
   pub made-most : made ≤ places → made + k * values ≤ places
   made-most = go k (sym q ∙ i)
     where
-      go : (k : ℕ) → copied_of k places made size values nodes ≡ more.Fits → made ≤ places → made + k * values ≤ places
+      go : (k : ℕ) → copied_of k places made size values nodes ≡ Ok u → made ≤ places → made + k * values ≤ places
       go zero e h = rw zero-mul (omega arith)
       go (suc k) e h = copied-few k places made size values nodes e
 
   pub made-mul : places < 2 ^ 64 → Fits w64 (k * values)
   made-mul = go k (sym q ∙ i)
     where
-      go : (k : ℕ) → copied_of k places made size values nodes ≡ more.Fits → places < 2 ^ 64 → Fits w64 (k * values)
+      go : (k : ℕ) → copied_of k places made size values nodes ≡ Ok u → places < 2 ^ 64 → Fits w64 (k * values)
       go zero e h = rw zero-mul (record { fits = omega arith })
       go (suc k) e h = let z = copied-few k places made size values nodes e in record { fits = omega arith }
 
   pub made-add : places < 2 ^ 64 → made < 2 ^ 64 → Fits w64 (made + k * values)
   made-add = go k (sym q ∙ i)
     where
-      go : (k : ℕ) → copied_of k places made size values nodes ≡ more.Fits → places < 2 ^ 64 → made < 2 ^ 64 → Fits w64 (made + k * values)
+      go : (k : ℕ) → copied_of k places made size values nodes ≡ Ok u → places < 2 ^ 64 → made < 2 ^ 64 → Fits w64 (made + k * values)
       go zero e h m = rw zero-mul (record { fits = omega arith })
       go (suc k) e h m = let z = copied-few k places made size values nodes e in record { fits = omega arith }
 
   pub size-mul : Fits w64 (k * nodes)
   size-mul = go k (sym q ∙ i)
     where
-      go : (k : ℕ) → copied_of k places made size values nodes ≡ more.Fits → Fits w64 (k * nodes)
+      go : (k : ℕ) → copied_of k places made size values nodes ≡ Ok u → Fits w64 (k * nodes)
       go zero e = rw zero-mul (record { fits = omega arith })
       go (suc k) e = let z = copied-sized k places made size values nodes e in record { fits = omega arith }
 
   pub size-add : size < 2 ^ 64 → Fits w64 (size + k * nodes)
   size-add = go k (sym q ∙ i)
     where
-      go : (k : ℕ) → copied_of k places made size values nodes ≡ more.Fits → size < 2 ^ 64 → Fits w64 (size + k * nodes)
+      go : (k : ℕ) → copied_of k places made size values nodes ≡ Ok u → size < 2 ^ 64 → Fits w64 (size + k * nodes)
       go zero e h = rw zero-mul (record { fits = omega arith })
       go (suc k) e h = let z = copied-sized k places made size values nodes e in record { fits = omega arith }
 
 -- what was repeated
-grew-kept : (small test : Bool) {old : List ℕ} {at : ℕ} {src : List ℕ} {n : ℕ} {r : Grown} {new : List ℕ} → (test ≡ true → at ≤ length old) → Grew small test old at src n r new → take at new ≡ take at old
+grew-kept : (small test : Bool) {old : List ℕ} {at : ℕ} {src : List ℕ} {n : ℕ} {r : std.Result ℕ Unfit} {new : List ℕ} → (test ≡ true → at ≤ length old) → Grew small test old at src n r new → take at new ≡ take at old
 grew-kept true true {old} {at} {src} {n} h g = ap (take at) g.is ∙ paste-kept old at src n (h refl)
 grew-kept true false {old} {at} h g = ap (take at) g.is
 grew-kept false test {old} {at} h g = ap (take at) g.is
@@ -430,7 +440,7 @@ module _ (values nodes k : ℕ) (l : Filling) {a : Added} (q : a ≡ copied_of k
       ap (peek M) (copied_is k l.places l.made l.size ts) ∙ peek-done M _ ∙ ap (λ c. got (outcome_of c (times k ts))) f
 
 module _ (values nodes k : ℕ) (l : Filling) (at : ℕ) {a : Added} (q : a ≡ copied_of k l.places l.made l.size values nodes) where
-  module _ {old : List ℕ} (i : a ≡ more.Fits) {g : Grown} {new : List ℕ} (w : Repeated old at nodes k g new) where
+  module _ {old : List ℕ} {u : Unit {0}} (i : a ≡ Ok u) {g : std.Result ℕ Unfit} {new : List ℕ} (w : Repeated old at nodes k g new) where
     list-kept : take at new ≡ take at old
     list-kept =
         grew-kept (leb (suc (k * nodes)) most_nodes) (leb (at + nodes * 6) (length old) && leb (at + nodes * 6 * k) (length old))
@@ -452,13 +462,13 @@ module _ (values nodes k : ℕ) (l : Filling) (at : ℕ) {a : Added} (q : a ≡ 
       list-few : suc (k * nodes) ≤ most_nodes
       list-few = omega (arith, list-small)
 
-      list-says : g ≡ grown.Ends (at + nodes * 6 * k)
+      list-says : g ≡ Ok (at + nodes * 6 * k)
       list-says = rw (le-leb (suc (k * nodes)) most_nodes list-few, le-leb (at + nodes * 6) (length old) list-first, le-leb (at + nodes * 6 * k) (length old) list-room) at w.says
 
       list-new : new ≡ paste old at (rept k (take (nodes * 6) (drop at old))) (nodes * 6 * k)
       list-new = rw (le-leb (suc (k * nodes)) most_nodes list-few, le-leb (at + nodes * 6) (length old) list-first, le-leb (at + nodes * 6 * k) (length old) list-room) at w.is
 
-    pub list-ends : {z : ℕ} → g ≡ grown.Ends z → CopiesList values nodes k l old at (listed.Ends z (l.made + k * values) (l.size + k * nodes)) new
+    pub list-ends : {z : ℕ} → g ≡ Ok z → CopiesList values nodes k l old at (listed.Ends z (l.made + k * values) (l.size + k * nodes)) new
     list-ends {z} j =
         record {
           kept = list-kept;
@@ -478,7 +488,7 @@ module _ (values nodes k : ℕ) (l : Filling) (at : ℕ) {a : Added} (q : a ≡ 
               };
         }
 
-    pub list-not : {r : Grown} → g ≡ r → (r ≡ grown.TooLarge) ⊎ (r ≡ grown.Not) → CopiesList values nodes k l old at listed.None new
+    pub list-not : {r : std.Result ℕ Unfit} → g ≡ r → (r ≡ (Err unfit.TooLarge)) ⊎ (r ≡ (Err unfit.Outside)) → CopiesList values nodes k l old at listed.None new
     list-not {r} j o =
         record {
           kept = list-kept;
@@ -487,17 +497,21 @@ module _ (values nodes k : ℕ) (l : Filling) (at : ℕ) {a : Added} (q : a ≡ 
               (λ p. let z : ◌≡◌ {A = ℕ} 0 1 = cc (list-says ts x n s room) in omega arith) o);
         }
 
-    pub list-not-large : g ≡ grown.TooLarge → CopiesList values nodes k l old at listed.None new
-    list-not-large j = list-not j (inl refl)
+    pub list-not-large : {u : Unfit} → g ≡ Err u → u ≡ unfit.TooLarge → CopiesList values nodes k l old at listed.None new
+    list-not-large a b =
+        let j : g ≡ Err unfit.TooLarge = cc in list-not j (inl refl)
 
-    pub list-not-there : g ≡ grown.Not → CopiesList values nodes k l old at listed.None new
-    list-not-there j = list-not j (inr refl)
+    pub list-not-there : {u : Unfit} → g ≡ Err u → u ≡ unfit.Outside → CopiesList values nodes k l old at listed.None new
+    list-not-there a b =
+        let j : g ≡ Err unfit.Outside = cc in list-not j (inr refl)
 
-  pub list-large : (old : List ℕ) → a ≡ more.TooLarge → CopiesList values nodes k l old at listed.TooLarge old
-  list-large old i = record { kept = refl; says = λ M ts e x g m n f s room. copied-peek values nodes k l q M ts m n ∙ ap (λ c. got (outcome_of c (times k ts))) i }
+  pub list-large : (old : List ℕ) → {u : Misfit} → a ≡ Err u → u ≡ misfit.TooLarge → CopiesList values nodes k l old at listed.TooLarge old
+  list-large old h z =
+      let i : a ≡ Err misfit.TooLarge = cc in record { kept = refl; says = λ M ts e x g m n f s room. copied-peek values nodes k l q M ts m n ∙ ap (λ c. got (outcome_of c (times k ts))) i }
 
-  pub list-many : (old : List ℕ) → a ≡ more.TooMany → CopiesList values nodes k l old at listed.None old
-  list-many old i = record { kept = refl; says = λ M ts e x g m n f s room. copied-peek values nodes k l q M ts m n ∙ ap (λ c. got (outcome_of c (times k ts))) i }
+  pub list-many : (old : List ℕ) → {u : Misfit} → a ≡ Err u → u ≡ misfit.TooMany → CopiesList values nodes k l old at listed.None old
+  list-many old h z =
+      let i : a ≡ Err misfit.TooMany = cc in record { kept = refl; says = λ M ts e x g m n f s room. copied-peek values nodes k l q M ts m n ∙ ap (λ c. got (outcome_of c (times k ts))) i }
 
 -- ---- `push_copies`
 abbrev copying_of : ℕ → Filling → Trees → Ask (Result Trees)
@@ -532,6 +546,7 @@ pub ruleset laws = (
   fields-full,
   fields-not,
   structure-taken,
+  structure-none,
   structure-other,
   default-copied,
   default-not,

@@ -147,7 +147,7 @@ module _ {f known store : List ℕ} (place : Place) {old : List ℕ} (at : ℕ) 
   unfolding element_defaults
   elements-none h = record { says = λ M k room. record { kept = refl; lists = ap (peek M) (no-array f place place.shape h) ∙ peek-nothing M } }
 
-module _ {f source known store : List ℕ} (g : Ready f source known store) (place : Place) (i : PlaceIn f place) (at : ℕ) where
+module _ {f known store : List ℕ} (g : Ready f known store) (place : Place) (i : PlaceIn f place) (at : ℕ) where
   module _ {s first many : ℕ} (e : place.shape ≡ shape.Array s first many) {old : List ℕ} (z : RoomThere old at (12282 + 24576 * shapes_deep f)) where
     pub elements-room : at + 6 + start_levels f (element_place f place s) * 12288 ≤ length old
     unfolding shapes_deep

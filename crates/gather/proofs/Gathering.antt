@@ -19,8 +19,6 @@ use Rattle.definition.specs.Peek.{Peek, got, wants, peek}
 use Rattle.laws.specs.Gathers.{Gathered}
 use Rattle.laws.specs.Steps.{peek-done, peek-give, peek-nothing, peek-ok, peek-none, peek-large, peek-wanted}
 use Rattle.laws.specs.Whole.{Goods, flatten_all-join, nodes_in-join, many-join, goods-join, many-one}
-use Rattle.tree_changes.specs.declared.limit.Added.{Added}
-use Rattle.tree_changes.specs.declared.limit.Added.TheVariants as more
 use Rattle.tree.specs.Words.{Stand}
 use Rattle.tree_changes.specs.Limit.{added_of}
 use Rattle.tree_changes.proofs.Limits.{added_is, outcome_of}
@@ -33,6 +31,9 @@ use Rattle.gather.specs.Answers.{ListThere, Lists, Filled}
 use Rattle.gather.specs.Room.{Defaults, Fillable}
 use Rattle.gather.specs.Copies.{MovesOn, NextDefault, EachDefault, PushesDefaults}
 use Rattle.gather.proofs.Onward.{take_less, lists-as}
+use Rattle.std.specs.Prelude.{Err, Ok}
+use Rattle.tree_changes.specs.declared.limit.Misfit.TheVariants as misfit
+use Rattle.tree_changes.specs.Limit.{Added}
 
 -- ---- values behind others
 abbrev behind_result : Trees → Result Trees → Peek (Result Trees)
@@ -186,9 +187,9 @@ added-same : (M : Memo) (p m s : ℕ) (ts us : Trees) → peek M (added p m s ts
 added-same M p m s ts us e = go (added_of p m s (many ts) (nodes_in ts)) (sym (ap (peek M) (added_is p m s ts) ∙ peek-done M _) ∙ e)
   where
     go : (a : Added) → got (outcome_of a ts) ≡ got (ok us) → us ≡ ts
-    go more.Fits q = cc
-    go more.TooMany q = let z : ◌≡◌ {A = ℕ} 0 1 = cc in absurd (omega arith)
-    go more.TooLarge q = let z : ◌≡◌ {A = ℕ} 0 1 = cc in absurd (omega arith)
+    go (Ok u) q = cc
+    go (Err misfit.TooMany) q = let z : ◌≡◌ {A = ℕ} 0 1 = cc in absurd (omega arith)
+    go (Err misfit.TooLarge) q = let z : ◌≡◌ {A = ℕ} 0 1 = cc in absurd (omega arith)
 
 never-ok : (M : Memo) (ts : Trees) → peek M nothing ≡ got (ok ts) → ⊥
 never-ok M ts e = let q : got none ≡ got (ok ts) = sym (peek-nothing M) ∙ e in let z : ◌≡◌ {A = ℕ} 0 1 = cc in omega arith

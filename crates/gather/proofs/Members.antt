@@ -23,17 +23,11 @@ use Rattle.definition.specs.Peek.{got, peek}
 use Rattle.laws.specs.Accepted.{Accepted}
 use Rattle.laws.specs.Steps.{peek-ok, peek-none, peek-large, peek-wanted}
 use Rattle.laws.specs.Whole.{nodes_in-join, goods-assigned, many-assigned, flatten-length}
-use Rattle.places.specs.declared.field.Found.{Found}
-use Rattle.places.specs.declared.field.Found.TheVariants as places
-use Rattle.places.specs.Found.{place_in}
+use Rattle.definition.specs.Ask.{result_of}
 use Rattle.places.specs.Inside.{PlaceIn, field_found}
-use Rattle.tree.specs.declared.part.Found as parts
-use Rattle.tree.specs.declared.part.Found.TheVariants as found
-use Rattle.tree_changes.specs.declared.grow.Span.{Span}
-use Rattle.tree_changes.specs.declared.grow.Grown.{Grown}
-use Rattle.tree_changes.specs.declared.grow.Grown.TheVariants as grown
+use Rattle.tree.specs.declared.extent.Span.{Span}
 use Rattle.tree.specs.Words.{Stand}
-use Rattle.tree.specs.Part.{place, find_of}
+use Rattle.tree.specs.Part.{span, place, find_of}
 use Rattle.tree_changes.specs.Grow.{in_order, moved, Spliced, Assigned, renamed}
 use Rattle.tree.proofs.Fields.{Named, place-named}
 use Rattle.tree_changes.proofs.Splicing.{assigned-limit, assigned-there}
@@ -45,6 +39,10 @@ use Rattle.gather.specs.Room.{Structure}
 use Rattle.gather.specs.Copies.{SetThere, SetsKept, Finds, PutsMember}
 use Rattle.gather.proofs.Onward.{builds-as}
 use Rattle.gather.proofs.Arrays.{gathered-ok, gathered-large, replaced-is, in_order_lem}
+use Rattle.std.specs.Prelude.{Err, None, Ok, Option, Some}
+use Rattle.std.specs.Prelude as std
+use Rattle.tree_changes.specs.declared.grow.Unfit.TheVariants as unfit
+use Rattle.tree_changes.specs.declared.grow.Unfit.{Unfit}
 
 -- ---- `find_field`
 named-entry : (f : List ℕ) (e : ℕ) {name : ℕ} → name ≡ word f entries e 1 → name ≡ entry_name f e
@@ -52,23 +50,23 @@ unfolding entry_name
 named-entry f e q = q
 
 module _ {f : List ℕ} (a : Accepted f) (p : Place) (i : PlaceIn f p) (e : ℕ) {name : ℕ} (n : name ≡ word f entries e 1)
-    {s : List ℕ} (at : ℕ) {x : parts.Found} (q : x ≡ find_of s at name) where
-  module _ {b u : ℕ} (j : x ≡ found.At b u) {y : Found} (z : place_in y ≡ field_place f p name) where
-    pub finds-at : {inner : Place} → y ≡ places.Place inner → Finds f p e s at (target.At b u name inner)
+    {s : List ℕ} (at : ℕ) {x : Option Span} (q : x ≡ find_of s at name) where
+  module _ {w : Span} (j : x ≡ Some w) {y : Option Place} (z : result_of y ≡ field_place f p name) where
+    pub finds-at : {inner : Place} → y ≡ Some inner → Finds f p e s at (target.At w.begin w.end name inner)
     finds-at {inner} k =
         record {
           says = (named-entry f e n, sym q ∙ j, sym z ∙ (rw k refl));
-          inside = λ b' u' n' inner' w. let o : inner ≡ inner' = cc in rw o at (field_found f a p name i z k);
+          inside = λ b' u' n' inner' v. let o : inner ≡ inner' = cc in rw o at (field_found f a p name i z k);
         }
 
-    pub finds-none : y ≡ places.None → Finds f p e s at target.None
+    pub finds-none : y ≡ None → Finds f p e s at target.None
     finds-none k =
         record {
           says = inr (rw (← named-entry f e n) (sym z ∙ (rw k refl)));
           inside = λ b' u' n' inner' w. let a : ◌≡◌ {A = ℕ} 0 1 = cc in absurd (omega arith);
         }
 
-  pub finds-nothing : x ≡ found.Nothing → Finds f p e s at target.None
+  pub finds-nothing : x ≡ None → Finds f p e s at target.None
   finds-nothing j =
       record {
         says = inl (rw (← named-entry f e n) (sym q ∙ j));
@@ -87,9 +85,6 @@ structure-node ts = refl
 structure-assigned : (name : ℕ) (t : Tree) (ts : Trees) → node (head_of ts) (assigned name t ts) ≡ structure_tree (assigned name t ts)
 structure-assigned name t ts = ap (λ n. node (record { name = 0; kind = 14; sign = 0; low = n; high = 0; width = 0 }) (assigned name t ts)) (sym (many-assigned name t ts)) ∙ sym (structure-node (assigned name t ts))
 
-abbrev span : ℕ → ℕ → Span
-span a b = record { begin = a; end = b }
-
 -- naming the new value changes nothing before it
 renamed-kept : (s : List ℕ) (at name n : ℕ) → n ≤ at → take n (renamed s at name) ≡ take n s
 renamed-kept s at name n h = go (leb (at + 6) (length s))
@@ -105,13 +100,13 @@ renamed-long s at name = go (leb (at + 6) (length s))
     go true = length-set s at name
     go false = refl
 
-module _ (at end begin upto name to : ℕ) (old : List ℕ) {g : Grown} {new : List ℕ} (w : Assigned old (span at end) (span begin upto) (span end to) name g new)
-    (M : Memo) (m : Ask Outcome) (fields : Trees) (x : Structure old at end 24576 fields) (p : place name (at + 6) fields ≡ found.At begin upto) (y : TreeThere M m end to old) where
+module _ (at end begin upto name to : ℕ) (old : List ℕ) {g : std.Result ℕ Unfit} {new : List ℕ} (w : Assigned old (span at end) (span begin upto) (span end to) name g new)
+    (M : Memo) (m : Ask Outcome) (fields : Trees) (x : Structure old at end 24576 fields) (p : place name (at + 6) fields ≡ Some (span begin upto)) (y : TreeThere M m end to old) where
   stands : Stand old at (flatten (node (head_of fields) fields)) end
   stands = rw (structure-node fields) at x.stands
 
-  named : Named name (at + 6) fields begin upto
-  named = place-named name (at + 6) fields begin upto p
+  named : Named name (at + 6) fields (span begin upto)
+  named = place-named name (at + 6) fields (span begin upto) p
 
   limit : leb (begin - at + moved (span at end) (span begin upto) (span end to)) (most_nodes * 6) ≡ leb (suc (nodes_in (assigned name y.tree fields))) most_nodes
   limit = assigned-limit old (span at end) (head_of fields) fields stands name (span begin upto) p y.tree (span end to) y.stands (omega arith)
@@ -131,16 +126,16 @@ module _ (at end begin upto name to : ℕ) (old : List ℕ) {g : Grown} {new : L
   unfolding nodes
   tree-most = omega (arith, stands.long, flatten-length (node (head_of fields) fields), x.whole.room)
 
-  answer-is : g ≡ pick (leb (begin - at + moved (span at end) (span begin upto) (span end to)) (most_nodes * 6)) (grown.Ends (begin + moved (span at end) (span begin upto) (span end to))) grown.TooLarge
+  answer-is : g ≡ pick (leb (begin - at + moved (span at end) (span begin upto) (span end to)) (most_nodes * 6)) (Ok (begin + moved (span at end) (span begin upto) (span end to))) (Err unfit.TooLarge)
   answer-is =
       w.says ∙ replaced-is (length old) (span at end) (span begin upto) (span end to) in_place (λ h. omega (arith, h, named.begins, x.room, part-inside, tree-most, y.ends))
 
-  by_size : (P : Type 0) → (suc (nodes_in (assigned name y.tree fields)) ≤ most_nodes → g ≡ grown.Ends (begin + moved (span at end) (span begin upto) (span end to)) → P)
-      → (most_nodes < suc (nodes_in (assigned name y.tree fields)) → g ≡ grown.TooLarge → P) → P
+  by_size : (P : Type 0) → (suc (nodes_in (assigned name y.tree fields)) ≤ most_nodes → g ≡ Ok (begin + moved (span at end) (span begin upto) (span end to)) → P)
+      → (most_nodes < suc (nodes_in (assigned name y.tree fields)) → g ≡ (Err unfit.TooLarge) → P) → P
   by_size P a c = go (leb (begin - at + moved (span at end) (span begin upto) (span end to)) (most_nodes * 6)) refl answer-is
     where
       go : (d : Bool) → leb (begin - at + moved (span at end) (span begin upto) (span end to)) (most_nodes * 6) ≡ d
-          → g ≡ pick d (grown.Ends (begin + moved (span at end) (span begin upto) (span end to))) grown.TooLarge → P
+          → g ≡ pick d (Ok (begin + moved (span at end) (span begin upto) (span end to))) (Err unfit.TooLarge) → P
       go true e z = a (leb-true (suc (nodes_in (assigned name y.tree fields))) most_nodes (sym limit ∙ e)) z
       go false e z = c (leb-false (suc (nodes_in (assigned name y.tree fields))) most_nodes (sym limit ∙ e)) z
 
@@ -148,7 +143,7 @@ module _ (at end begin upto name to : ℕ) (old : List ℕ) {g : Grown} {new : L
   next-is : (k : Trees → Ask Outcome) → peek M (m >>= λ t. gathered 0 (assigned name t fields) >>= k) ≡ peek M (gathered 0 (assigned name y.tree fields) >>= k)
   next-is k = peek-ok M m (λ t. gathered 0 (assigned name t fields) >>= k) y.tree y.is
 
-  set-ends : {e : ℕ} → g ≡ grown.Ends e → SetsKept M (λ k. m >>= λ t. gathered 0 (assigned name t fields) >>= k) old at (built.Ends e) new
+  set-ends : {e : ℕ} → g ≡ Ok e → SetsKept M (λ k. m >>= λ t. gathered 0 (assigned name t fields) >>= k) old at (built.Ends e) new
   set-ends {e} j =
       let z : Spliced (renamed old end name) (span at end) (span begin upto) (span end to) new = rw j at w.wrote in
       let b : at + 6 ≤ begin = omega (arith, named.begins) in
@@ -171,7 +166,7 @@ module _ (at end begin upto name to : ℕ) (old : List ℕ) {g : Grown} {new : L
             (λ h v. let n : ◌≡◌ {A = ℕ} 0 1 = cc in absurd (omega arith));
       }
 
-  set-large : g ≡ grown.TooLarge → SetsKept M (λ k. m >>= λ t. gathered 0 (assigned name t fields) >>= k) old at built.TooLarge new
+  set-large : g ≡ (Err unfit.TooLarge) → SetsKept M (λ k. m >>= λ t. gathered 0 (assigned name t fields) >>= k) old at built.TooLarge new
   set-large j =
       record {
         kept = ap (take at) (rw j at w.wrote);
@@ -180,20 +175,22 @@ module _ (at end begin upto name to : ℕ) (old : List ℕ) {g : Grown} {new : L
             (λ h v. peek-large M (gathered 0 (assigned name y.tree fields)) k (gathered-large M 0 (assigned name y.tree fields) (omega arith)));
       }
 
-  set-not : g ≡ grown.Not → ⊥
+  set-not : g ≡ (Err unfit.Outside) → ⊥
   set-not j = by_size ⊥ (λ h v. let n : ◌≡◌ {A = ℕ} 0 1 = cc in omega arith) (λ h v. let n : ◌≡◌ {A = ℕ} 0 1 = cc in omega arith)
 
 module _ {b : Built} (at end begin upto name : ℕ) where
-  module _ {to : ℕ} (q : b ≡ built.Ends to) {old : List ℕ} {g : Grown} {new : List ℕ}
+  module _ {to : ℕ} (q : b ≡ built.Ends to) {old : List ℕ} {g : std.Result ℕ Unfit} {new : List ℕ}
       (w : Assigned old (record { begin = at; end = end }) (record { begin = begin; end = upto }) (record { begin = end; end = to }) name g new) where
-    pub puts-ends : {e : ℕ} → g ≡ grown.Ends e → PutsMember b at end begin upto name old (built.Ends e) new
+    pub puts-ends : {e : ℕ} → g ≡ Ok e → PutsMember b at end begin upto name old (built.Ends e) new
     puts-ends j = record { says = λ M m fields x p y. set-ends at end begin upto name to old w M m fields x p (builds-as M m end old q y) j }
 
-    pub puts-large : g ≡ grown.TooLarge → PutsMember b at end begin upto name old built.TooLarge new
-    puts-large j = record { says = λ M m fields x p y. set-large at end begin upto name to old w M m fields x p (builds-as M m end old q y) j }
+    pub puts-large : {u : Unfit} → g ≡ Err u → u ≡ unfit.TooLarge → PutsMember b at end begin upto name old built.TooLarge new
+    puts-large h z =
+        let j : g ≡ Err unfit.TooLarge = cc in record { says = λ M m fields x p y. set-large at end begin upto name to old w M m fields x p (builds-as M m end old q y) j }
 
-    pub puts-not : g ≡ grown.Not → PutsMember b at end begin upto name old built.None new
-    puts-not j = record { says = λ M m fields x p y. absurd (set-not at end begin upto name to old w M m fields x p (builds-as M m end old q y) j) }
+    pub puts-not : {u : Unfit} → g ≡ Err u → u ≡ unfit.Outside → PutsMember b at end begin upto name old built.None new
+    puts-not h z =
+        let j : g ≡ Err unfit.Outside = cc in record { says = λ M m fields x p y. absurd (set-not at end begin upto name to old w M m fields x p (builds-as M m end old q y) j) }
 
   module _ {old : List ℕ} where
     pub puts_none : b ≡ built.None → PutsMember b at end begin upto name old built.None old

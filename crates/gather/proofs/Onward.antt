@@ -10,8 +10,6 @@ use Rattle.definition.specs.Resolve.{Memo}
 use Rattle.definition.specs.Peek.{got, peek}
 use Rattle.laws.specs.Whole.{Goods}
 use Rattle.tree.specs.Words.{Stand}
-use Rattle.tree_changes.specs.declared.limit.Added.{Added}
-use Rattle.tree_changes.specs.declared.limit.Added.TheVariants as more
 use Rattle.tree_changes.specs.Limit.{added_of}
 use Rattle.tree_changes.proofs.Limits.{added-counts, outcome_of}
 use Rattle.build.specs.declared.built.Built.{Built}
@@ -21,6 +19,9 @@ use Rattle.gather.specs.declared.answers.Listed.TheVariants as listed
 use Rattle.gather.specs.declared.answers.Filling.{Filling}
 use Rattle.gather.specs.Answers.{Builds, Lists}
 use Rattle.gather.specs.Leaves.{on_added}
+use Rattle.std.specs.Prelude.{Err, Ok}
+use Rattle.tree_changes.specs.declared.limit.Misfit.TheVariants as misfit
+use Rattle.tree_changes.specs.Limit.{Added}
 
 pub take_less : (s t : List ℕ) (a b : ℕ) → a ≤ b → take b s ≡ take b t → take a s ≡ take a t
 take_less s t a b h e = sym (take-take a b s h) ∙ ap (take a) e ∙ take-take a b t h
@@ -54,8 +55,8 @@ lists-added M m l at e ts s p x g q {r} h = go (added_of l.places l.made l.size 
   where
     go : (a : Added) → added_of l.places l.made l.size (many ts) (nodes_in ts) ≡ a → peek M m ≡ got (outcome_of a ts)
         → r ≡ on_added a (listed.Ends e (l.made + many ts) (l.size + nodes_in ts)) → Lists M m l at r s
-    go more.Fits i u v =
+    go (Ok w) i u v =
         let z = added-counts l.places l.made l.size (many ts) (nodes_in ts) i in
         rw v (record { trees = ts; is = u; ends = q; counts = refl; sizes = refl; stands = x; small = record { whole = g; room = z.0 }; few = z.1 })
-    go more.TooMany i u v = rw v u
-    go more.TooLarge i u v = rw v u
+    go (Err misfit.TooMany) i u v = rw v u
+    go (Err misfit.TooLarge) i u v = rw v u

@@ -34,13 +34,7 @@ use Rattle.definition.specs.declared.records.Place.{Place}
 use Rattle.laws.specs.Pointed.{entry-pointed}
 use Rattle.laws.specs.Steps.{peek-done, peek-ok, peek-none, peek-large, peek-wanted}
 use Rattle.laws.specs.Whole.{Good, many-one, nodes_in-one, flatten_all-one, goods-one}
-use Rattle.scalar.specs.declared.node.Leaf.{Leaf}
-use Rattle.scalar.specs.declared.node.Leaf.TheVariants as leafs
-use Rattle.scalar.specs.Node.{result_of}
-use Rattle.tree.specs.declared.extent.Extent.{Extent}
-use Rattle.tree.specs.declared.extent.Extent.TheVariants as extent
-use Rattle.tree_changes.specs.declared.limit.Added.{Added}
-use Rattle.tree_changes.specs.declared.limit.Added.TheVariants as more
+use Rattle.definition.specs.Ask.{result_of}
 use Rattle.tree.specs.Words.{Wrote, WroteNode}
 use Rattle.tree_changes.specs.Limit.{added_of}
 use Rattle.tree_changes.proofs.Limits.{count_fits, size_fits, added_is}
@@ -53,6 +47,10 @@ use Rattle.gather.specs.declared.answers.Filling.{Filling}
 use Rattle.gather.specs.Answers.{TreeThere, Lists}
 use Rattle.gather.specs.Leaves.{simple_of, on_added, pushed, Puts, Pushes, PushesTree, PushesSimple, PutsSimple}
 use Rattle.gather.proofs.Onward.{builds-as, lists-added}
+use Rattle.std.specs.Prelude.{Err, None, Ok, Option, Some}
+use Rattle.tree_changes.specs.declared.limit.Misfit.TheVariants as misfit
+use Rattle.tree_changes.specs.declared.limit.Misfit.{Misfit}
+use Rattle.tree_changes.specs.Limit.{Added}
 
 -- ---- `simple`
 abbrev others : List ℕ
@@ -99,14 +97,14 @@ pub paste-kept : (old : List ℕ) (at : ℕ) (src : List ℕ) (n : ℕ) → at �
 paste-kept old at src n h =
     ap (take at) (append_assoc (take at old) (take n src) (drop (at + n) old)) ∙ take_at (take at old) (take n src ++ drop (at + n) old) at (length-take-le at old h)
 
-pub wrote_kept : (test : Bool) {old : List ℕ} {at : ℕ} {src : List ℕ} {n : ℕ} {r : Extent} {new : List ℕ} → (test ≡ true → at ≤ length old) → Wrote test old at src n r new → take at new ≡ take at old
+pub wrote_kept : (test : Bool) {old : List ℕ} {at : ℕ} {src : List ℕ} {n : ℕ} {r : Option ℕ} {new : List ℕ} → (test ≡ true → at ≤ length old) → Wrote test old at src n r new → take at new ≡ take at old
 wrote_kept true {old} {at} {src} {n} h q = ap (take at) q.is ∙ paste-kept old at src n (h refl)
 wrote_kept false {old} {at} h q = ap (take at) q.is
 
-pub node_kept : {old : List ℕ} {at : ℕ} {ws : List ℕ} {x : Extent} {new : List ℕ} → WroteNode old at ws x new → take at new ≡ take at old
+pub node_kept : {old : List ℕ} {at : ℕ} {ws : List ℕ} {x : Option ℕ} {new : List ℕ} → WroteNode old at ws x new → take at new ≡ take at old
 node_kept {old} {at} w = wrote_kept (leb (at + 6) (length old)) (λ e. omega (arith, leb-true (at + 6) (length old) e)) w
 
-module _ {v : Leaf} {c : Constant} (q : v ≡ leafs.Value c) {old : List ℕ} {at : ℕ} {x : Extent} {new : List ℕ}
+module _ {v : Option Constant} {c : Constant} (q : v ≡ Some c) {old : List ℕ} {at : ℕ} {x : Option ℕ} {new : List ℕ}
     (w : WroteNode old at (flatten (leaf c.kind c.sign c.low c.high c.width)) x new) where
   value-is : (o : Outcome) → as_tree (result_of v) ≡ o → o ≡ ok (leaf c.kind c.sign c.low c.high c.width)
   unfolding as_tree constant_tree
@@ -116,7 +114,7 @@ module _ {v : Leaf} {c : Constant} (q : v ≡ leafs.Value c) {old : List ℕ} {a
   unfolding leaf nodes
   leaf-nodes = refl
 
-  pub put-ends : {e : ℕ} → x ≡ extent.Ends e → Puts v old at (built.Ends e) new
+  pub put-ends : {e : ℕ} → x ≡ Some e → Puts v old at (built.Ends e) new
   put-ends {e} i =
       let z = wrote-so-is (leb (at + 6) (length old)) w i in
       let t = leaf c.kind c.sign c.low c.high c.width in
@@ -133,27 +131,29 @@ module _ {v : Leaf} {c : Constant} (q : v ≡ leafs.Value c) {old : List ℕ} {a
             };
       }
 
-  pub put_full : x ≡ extent.Not → Puts v old at built.None new
+  pub put_full : x ≡ None → Puts v old at built.None new
   put_full i =
       record {
         kept = node_kept w;
         says = λ M o p small room. let y = rw (le-leb (at + 6) (length old) room) at w.says in let z : ◌≡◌ {A = ℕ} 0 1 = cc in absurd (omega arith);
       }
 
-pub put-none : {v : Leaf} → v ≡ leafs.None → {old : List ℕ} {at : ℕ} → Puts v old at built.None old
+pub put-none : {v : Option Constant} → v ≡ None → {old : List ℕ} {at : ℕ} → Puts v old at built.None old
 unfolding as_tree
 put-none q = record { kept = refl; says = λ M o p small room. peek-done M o ∙ ap got (sym (rw q at p)) }
 
 -- ---- `push_one`, `push_tree`
 module _ (places made size values nodes : ℕ) {a : Added} (q : a ≡ added_of places made size values nodes) (r : Listed) where
-  pub one-fits : a ≡ more.Fits → r ≡ on_added (added_of places made size values nodes) r
+  pub one-fits : {u : Unit {0}} → a ≡ Ok u → r ≡ on_added (added_of places made size values nodes) r
   one-fits i = rw (← q, i)
 
-  pub one-many : a ≡ more.TooMany → listed.None ≡ on_added (added_of places made size values nodes) r
-  one-many i = rw (← q, i)
+  pub one-many : {u : Misfit} → a ≡ Err u → u ≡ misfit.TooMany → listed.None ≡ on_added (added_of places made size values nodes) r
+  one-many h z =
+      let i : a ≡ Err misfit.TooMany = cc in rw (← q, i)
 
-  pub one-large : a ≡ more.TooLarge → listed.TooLarge ≡ on_added (added_of places made size values nodes) r
-  one-large i = rw (← q, i)
+  pub one-large : {u : Misfit} → a ≡ Err u → u ≡ misfit.TooLarge → listed.TooLarge ≡ on_added (added_of places made size values nodes) r
+  one-large h z =
+      let i : a ≡ Err misfit.TooLarge = cc in rw (← q, i)
 
 module _ {b : Built} (l : Filling) (at : ℕ) where
   pub push-ends : {e : ℕ} → b ≡ built.Ends e → {n : ℕ} → ((k : ℕ) → e ≡ at + 6 * k → n ≡ k) → {r : Listed}
@@ -181,7 +181,7 @@ module _ {b : Built} (l : Filling) (at : ℕ) where
   pub push-wanted : {d : ℕ} → b ≡ built.Wanted d → PushesTree b l at (listed.Wanted d)
   push-wanted {d} q = record { says = λ M m s y. peek-wanted M m (λ t. added l.places l.made l.size (one t)) d (builds-as M m at s q y) }
 
-pub push-leaf : {v : Leaf} {l : Filling} {old : List ℕ} {at : ℕ} {b : Built} {new : List ℕ} → Puts v old at b new → {r : Listed} → PushesTree b l at r → Pushes v l old at r new
+pub push-leaf : {v : Option Constant} {l : Filling} {old : List ℕ} {at : ℕ} {b : Built} {new : List ℕ} → Puts v old at b new → {r : Listed} → PushesTree b l at r → Pushes v l old at r new
 push-leaf p t = record { kept = p.kept; says = λ M o q small room. t.says M (done o) _ (p.says M o q small room) }
 
 -- ---- by an entry's record
@@ -199,7 +199,7 @@ small-simple f s entry.LateBound = tt
 small-simple f s (entry.Repeat many inner) = tt
 small-simple f s entry.Unknown = tt
 
-module _ (f : List ℕ) (e : ℕ) (place : Place) {v : Leaf} (q : as_tree (result_of v) ≡ simple_of f place.shape (entry_at f e)) {old : List ℕ} {at : ℕ} {new : List ℕ} where
+module _ (f : List ℕ) (e : ℕ) (place : Place) {v : Option Constant} (q : as_tree (result_of v) ≡ simple_of f place.shape (entry_at f e)) {old : List ℕ} {at : ℕ} {new : List ℕ} where
   pub simple-pushed : {l : Filling} {r : Listed} → Pushes v l old at r new → PushesSimple f e place l old at r new
   simple-pushed w = record { kept = w.kept; says = λ M room. w.says M (simple_of f place.shape (entry_at f e)) q (small-simple f place.shape (entry_at f e)) room }
 

@@ -10,10 +10,7 @@ use Rattle.definition.specs.Peek.{got, wants, peek}
 use Rattle.laws.specs.Gathers.{Gathered}
 use Rattle.laws.specs.Whole.{Goods}
 use Rattle.tree.specs.Words.{Stand}
-use Rattle.tree.specs.declared.extent.Extent.{Extent}
-use Rattle.tree.specs.declared.extent.Extent.TheVariants as extent
-use Rattle.tree.specs.declared.part.Found.TheVariants.{At, Nothing}
-use Rattle.tree.specs.Part.{place, find_of}
+use Rattle.tree.specs.Part.{span, place, find_of}
 use Rattle.definition.specs.declared.records.Place.{Place}
 use Rattle.definition.specs.Records.{entry_name}
 use Rattle.definition.specs.Places.{field_place}
@@ -26,6 +23,7 @@ use Rattle.gather.specs.declared.answers.Listed.{Listed}
 use Rattle.gather.specs.declared.answers.Filling.{Filling}
 use Rattle.gather.specs.Answers.{Builds, Lists, Filled}
 use Rattle.gather.specs.Room.{Defaults, Fillable, Structure, Current, whole}
+use Rattle.std.specs.Prelude.{None, Option, Some}
 
 -- ---- a structure is taken apart, and its fields stand under a head of their own; or it is none
 pub record Taken (t : Tree) (at e : ℕ) (new : List ℕ) : Type 0 where
@@ -40,9 +38,9 @@ Takes t at built.TooLarge new = ⊥
 Takes t at (built.Wanted d) new = ⊥
 
 -- words between two places
-pub record CopiesWords (from to : ℕ) (old : List ℕ) (at : ℕ) (r : Extent) (new : List ℕ) : Type 0 where
+pub record CopiesWords (from to : ℕ) (old : List ℕ) (at : ℕ) (r : Option ℕ) (new : List ℕ) : Type 0 where
   pub kept : take at new ≡ take at old
-  pub says : (ws : List ℕ) → Stand old from ws to → to ≤ at → at + length ws ≤ length old → (r ≡ extent.Ends (at + length ws)) × Stand new at ws (at + length ws)
+  pub says : (ws : List ℕ) → Stand old from ws to → to ≤ at → at + length ws ≤ length old → (r ≡ Some (at + length ws)) × Stand new at ws (at + length ws)
 
 pub record CopiesFields (begin end count : ℕ) (old : List ℕ) (at : ℕ) (r : Built) (new : List ℕ) : Type 0 where
   pub kept : take at new ≡ take at old
@@ -139,8 +137,8 @@ Sets M step at (built.Wanted d) new = (k : Trees → Ask Outcome) → peek M (st
 
 -- the field of an entry's name: where it stands in a structure, and its place
 abbrev pub Targets : List ℕ → Place → ℕ → List ℕ → ℕ → Target → Type 0
-Targets f p e s at (target.At begin upto name inner) = (name ≡ entry_name f e) × (find_of s at name ≡ At begin upto) × (field_place f p name ≡ ok inner)
-Targets f p e s at target.None = (find_of s at (entry_name f e) ≡ Nothing) ⊎ (field_place f p (entry_name f e) ≡ none)
+Targets f p e s at (target.At begin upto name inner) = (name ≡ entry_name f e) × (find_of s at name ≡ Some (span begin upto)) × (field_place f p name ≡ ok inner)
+Targets f p e s at target.None = (find_of s at (entry_name f e) ≡ None) ⊎ (field_place f p (entry_name f e) ≡ none)
 
 pub record Finds (f : List ℕ) (p : Place) (e : ℕ) (s : List ℕ) (at : ℕ) (r : Target) : Type 0 where
   pub says : Targets f p e s at r
@@ -151,5 +149,5 @@ pub record SetsKept (M : Memo) (step : (Trees → Ask Outcome) → Ask Outcome) 
   pub sets : Sets M step at r new
 
 pub record PutsMember (b : Built) (at end begin upto name : ℕ) (old : List ℕ) (r : Built) (new : List ℕ) : Type 0 where
-  pub says : (M : Memo) (m : Ask Outcome) (fields : Trees) → Structure old at end 24576 fields → place name (at + 6) fields ≡ At begin upto → Builds M m end b old
+  pub says : (M : Memo) (m : Ask Outcome) (fields : Trees) → Structure old at end 24576 fields → place name (at + 6) fields ≡ Some (span begin upto) → Builds M m end b old
       → SetsKept M (λ k. m >>= λ t. gathered 0 (assigned name t fields) >>= k) old at r new

@@ -13,15 +13,16 @@ use Rattle.definition.specs.Scalar.{as_tree, constant_value, enumerated_value, e
 use Rattle.definition.specs.Resolve.{Memo}
 use Rattle.laws.specs.Asks.{OnOk}
 use Rattle.laws.specs.Values.{Small}
-use Rattle.scalar.specs.declared.node.Leaf.{Leaf}
-use Rattle.scalar.specs.Node.{result_of}
-use Rattle.tree_changes.specs.declared.limit.Added.{Added}
-use Rattle.tree_changes.specs.declared.limit.Added.TheVariants as more
+use Rattle.definition.specs.Ask.{result_of}
 use Rattle.build.specs.declared.built.Built.{Built}
 use Rattle.gather.specs.declared.answers.Listed.{Listed}
 use Rattle.gather.specs.declared.answers.Listed.TheVariants as listed
 use Rattle.gather.specs.declared.answers.Filling.{Filling}
 use Rattle.gather.specs.Answers.{Builds, Lists}
+use Rattle.std.specs.Prelude.{Err, Ok, Option}
+use Rattle.tree_changes.specs.declared.limit.Misfit.TheVariants as misfit
+use Rattle.tree_changes.specs.Limit.{Added}
+use Rattle.definition.specs.declared.records.Constant.{Constant}
 
 -- what a constant, an enumerated value or an expression gives a place; none for any other entry
 unfoldable pub simple_of : List ℕ → Shape → Entry → Outcome
@@ -36,21 +37,21 @@ simple_of f s entry.Unknown = none
 
 -- an answer where values fit, or why they do not
 abbrev pub on_added : Added → Listed → Listed
-on_added more.Fits r = r
-on_added more.TooMany r = listed.None
-on_added more.TooLarge r = listed.TooLarge
+on_added (Ok u) r = r
+on_added (Err misfit.TooMany) r = listed.None
+on_added (Err misfit.TooLarge) r = listed.TooLarge
 
 -- one more value of an array
 abbrev pub pushed : Filling → Ask Outcome → Ask (Result Trees)
 pushed l m = m >>= λ t. added l.places l.made l.size (one t)
 
 -- a value is written at a place
-pub record Puts (v : Leaf) (old : List ℕ) (at : ℕ) (r : Built) (new : List ℕ) : Type 0 where
+pub record Puts (v : Option Constant) (old : List ℕ) (at : ℕ) (r : Built) (new : List ℕ) : Type 0 where
   pub kept : take at new ≡ take at old
   pub says : (M : Memo) (o : Outcome) → as_tree (result_of v) ≡ o → OnOk Small o → at + 6 ≤ length old → Builds M (done o) at r new
 
 -- and becomes the next of an array
-pub record Pushes (v : Leaf) (l : Filling) (old : List ℕ) (at : ℕ) (r : Listed) (new : List ℕ) : Type 0 where
+pub record Pushes (v : Option Constant) (l : Filling) (old : List ℕ) (at : ℕ) (r : Listed) (new : List ℕ) : Type 0 where
   pub kept : take at new ≡ take at old
   pub says : (M : Memo) (o : Outcome) → as_tree (result_of v) ≡ o → OnOk Small o → at + 6 ≤ length old → Lists M (pushed l (done o)) l at r new
 

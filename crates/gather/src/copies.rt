@@ -1,7 +1,7 @@
 // What stands in the room is copied, repeated, or takes the place of something else. Nothing here calls back.
+#![tactic(auto, using(crate::proofs::Arrays::laws))]
+
 ghost use Rattle.std.specs.Prelude.{◌≡◌, ◌-◌, ◌≤◌};
-ghost use Rattle.laws.specs.Accepted.{Accepted};
-ghost use Rattle.records.specs.Starts.{StartsOf, DeclaredIn};
 ghost use Rattle.shapes.specs.Classes.{Classes};
 ghost use Rattle.places.specs.Inside.{PlaceIn};
 ghost use Rattle.gather.specs.Copies.{CopiesWords, PushesWords, CopiesFields, CopiesStructure, CopiesDefault, MovesOn, Remains, CopiesList, PushesCopies, NextDefault, EachDefault, PushesDefaults, FillsOver, FillsRest, PutsHead, Heads, Finds, PutsMember};
@@ -11,58 +11,64 @@ use crate::leaves::nodes_between;
 use build::built::Built;
 use definition::layout::{ENTRIES, NODE_WORDS};
 use definition::records::Place;
-use places::field;
 use places::field::field_place;
-use records::words::word;
-use tree::extent::{Extent, after, whole};
+use records::file::File;
+use tree::extent::{Span, after, whole};
 use tree::node::{write_array, write_structure};
-use tree::part::{Found, Value, find, value_at};
+use tree::part::{Value, find, value_at};
 use tree::words::{fits, shift};
-use tree_changes::grow::{Grown, Span, assign, repeat, replace};
-use tree_changes::limit::{Added, may_add, may_copy, may_gather};
+use tree_changes::grow::{Unfit, assign, repeat, replace};
+use tree_changes::limit::{Misfit, may_add, may_copy, may_gather};
 
 // Copies the words between two places.
-fn copy_words(room: &mut [u32], from: usize, to: usize, at: usize) -> Extent
+#[tactic(auto, using(crate::proofs::Copying::laws))]
+fn copy_words(room: &mut [u32], from: usize, to: usize, at: usize) -> Option<usize>
     ensures { CopiesWords from to room.old at result room.new }
 {
     if to < from {
-        return Extent::Not;
+        return None;
     }
     shift(room, from, to - from, at)
 }
 
 // A structure's fields, copied under a head of their own.
+#[tactic(auto, using(crate::proofs::Copying::laws))]
 fn copy_fields(room: &mut [u32], begin: usize, end: usize, at: usize, count: u32) -> Built
     ensures { CopiesFields begin end count room.old at result room.new }
 {
     match copy_words(room, begin, end, at) {
-        Extent::Ends(to) => match write_structure(room, at, count) {
-            Extent::Ends(_) => Built::Ends(to),
-            Extent::Not => Built::None,
+        Some(to) => match write_structure(room, at, count) {
+            Some(_) => Built::Ends(to),
+            None => Built::None,
         },
-        Extent::Not => Built::None,
+        None => Built::None,
     }
 }
 
 // A structure is taken apart or the answer is none.
+#[tactic(auto, using(crate::proofs::Copying::laws))]
 pub fn copy_structure(room: &mut [u32], begin: usize, end: usize, at: usize) -> Built
     ensures { CopiesStructure begin end room.old at result room.new }
 {
     let v = value_at(&room[..], begin);
-    let Value::Structure(count) = v else {
+    let Some(value) = v else {
+        return Built::None;
+    };
+    let Value::Structure(count) = value else {
         return Built::None;
     };
     copy_fields(room, begin, end, at, count)
 }
 
 // The same of the next place's default.
+#[tactic(auto, using(crate::proofs::Copying::laws))]
 pub fn copy_default(l: Filling, room: &mut [u32], at: usize) -> Built
     ensures { CopiesDefault l room.old at result room.new }
 {
     if l.made < l.places {
         match whole(&room[..], l.from) {
-            Extent::Ends(end) => copy_structure(room, l.from, end, at),
-            Extent::Not => Built::None,
+            Some(end) => copy_structure(room, l.from, end, at),
+            None => Built::None,
         }
     } else {
         Built::None
@@ -79,16 +85,18 @@ fn less(a: usize, b: usize) -> usize
 }
 
 // Where the default of the next place stands, once there are more values.
+#[tactic(auto, using(crate::proofs::Copying::laws))]
 pub fn moved_on(room: &[u32], from: usize, made: usize, more: usize) -> usize
     ensures { MovesOn room.now from made more result }
 {
     match after(room, from, less(more, made)) {
-        Extent::Ends(next) => next,
-        Extent::Not => from,
+        Some(next) => next,
+        None => from,
     }
 }
 
 // The defaults of the places that are left.
+#[tactic(auto, using(crate::proofs::Copying::laws))]
 pub fn remaining(l: Filling) -> Filling
     ensures { Remains l result }
 {
@@ -101,6 +109,7 @@ pub fn remaining(l: Filling) -> Filling
 }
 
 // Values at a place, so many times one behind the other.
+#[tactic(auto, using(crate::proofs::Copying::lists))]
 fn copy_list(
     values: usize,
     nodes: usize,
@@ -112,20 +121,21 @@ fn copy_list(
     ensures { CopiesList values nodes times l room.old at result room.new }
 {
     match may_copy(times, l.places, l.made, l.size, values, nodes) {
-        Added::Fits => match repeat(room, at, nodes, times) {
-            Grown::Ends(end) => Listed::Ends {
+        Ok(()) => match repeat(room, at, nodes, times) {
+            Ok(end) => Listed::Ends {
                 end,
                 made: l.made + times * values,
                 size: l.size + times * nodes,
             },
-            Grown::TooLarge => Listed::None,
-            Grown::Not => Listed::None,
+            Err(Unfit::TooLarge) => Listed::None,
+            Err(Unfit::Outside) => Listed::None,
         },
-        Added::TooMany => Listed::None,
-        Added::TooLarge => Listed::TooLarge,
+        Err(Misfit::TooMany) => Listed::None,
+        Err(Misfit::TooLarge) => Listed::TooLarge,
     }
 }
 
+#[tactic(auto, using(crate::proofs::Copying::lists))]
 pub fn push_copies(b: Listed, times: usize, l: Filling, room: &mut [u32], at: usize) -> Listed
     ensures { PushesCopies b times l room.old at result room.new }
 {
@@ -138,38 +148,41 @@ pub fn push_copies(b: Listed, times: usize, l: Filling, room: &mut [u32], at: us
 }
 
 // A tree between two places becomes the next value of an array, where it may be added.
+#[tactic(auto, using(crate::proofs::Copying::pushes))]
 fn push_words(begin: usize, end: usize, l: Filling, room: &mut [u32], at: usize) -> Listed
     ensures { PushesWords begin end l room.old at result room.new }
 {
     let nodes = nodes_between(begin, end);
     match may_add(l.places, l.made, l.size, 1, nodes) {
-        Added::Fits => match copy_words(room, begin, end, at) {
-            Extent::Ends(to) => Listed::Ends {
+        Ok(()) => match copy_words(room, begin, end, at) {
+            Some(to) => Listed::Ends {
                 end: to,
                 made: l.made + 1,
                 size: l.size + nodes,
             },
-            Extent::Not => Listed::None,
+            None => Listed::None,
         },
-        Added::TooMany => Listed::None,
-        Added::TooLarge => Listed::TooLarge,
+        Err(Misfit::TooMany) => Listed::None,
+        Err(Misfit::TooLarge) => Listed::TooLarge,
     }
 }
 
 // n() takes each place's own default.
+#[tactic(auto, using(crate::proofs::Copying::laws))]
 fn next_default(l: Filling, room: &mut [u32], at: usize) -> Listed
     ensures { NextDefault l room.old at result room.new }
 {
     if l.made < l.places {
         match whole(&room[..], l.from) {
-            Extent::Ends(end) => push_words(l.from, end, l, room, at),
-            Extent::Not => Listed::None,
+            Some(end) => push_words(l.from, end, l, room, at),
+            None => Listed::None,
         }
     } else {
         Listed::None
     }
 }
 
+#[tactic(auto, using(crate::proofs::Gathering::laws))]
 fn each_default(times: usize, l: Filling, room: &mut [u32], at: usize) -> Listed
     ensures { EachDefault times l room.old at result room.new }
 {
@@ -210,6 +223,7 @@ fn each_default(times: usize, l: Filling, room: &mut [u32], at: usize) -> Listed
     }
 }
 
+#[tactic(auto, using(crate::proofs::Gathering::laws))]
 pub fn push_defaults(times: usize, l: Filling, room: &mut [u32], at: usize) -> Listed
     ensures { PushesDefaults times l room.old at result room.new }
 {
@@ -224,7 +238,7 @@ pub fn push_defaults(times: usize, l: Filling, room: &mut [u32], at: usize) -> L
 fn fill_over(end: usize, values: usize, made: usize, places: usize, room: &mut [u32]) -> Listed
     ensures { FillsOver end values made places room.old result room.new }
 {
-    let Extent::Ends(part) = after(&room[..], 0, made) else {
+    let Some(part) = after(&room[..], 0, made) else {
         return Listed::None;
     };
     match replace(
@@ -239,7 +253,7 @@ fn fill_over(end: usize, values: usize, made: usize, places: usize, room: &mut [
             end: values,
         },
     ) {
-        Grown::Ends(to) => {
+        Ok(to) => {
             let size = to / NODE_WORDS;
             if may_gather(0, size) {
                 Listed::Ends {
@@ -251,8 +265,8 @@ fn fill_over(end: usize, values: usize, made: usize, places: usize, room: &mut [
                 Listed::TooLarge
             }
         }
-        Grown::TooLarge => Listed::TooLarge,
-        Grown::Not => Listed::None,
+        Err(Unfit::TooLarge) => Listed::TooLarge,
+        Err(Unfit::Outside) => Listed::None,
     }
 }
 
@@ -285,8 +299,8 @@ fn put_head(end: usize, made: usize, at: usize, from: usize, room: &mut [u32]) -
     let count = as_word(made);
     if fits(room.len(), from, end) {
         match write_array(room, at, count) {
-            Extent::Ends(_) => Built::Ends(from + end),
-            Extent::Not => Built::None,
+            Some(_) => Built::Ends(from + end),
+            None => Built::None,
         }
     } else {
         Built::None
@@ -317,36 +331,37 @@ pub enum Target {
 }
 
 // The field of an entry's name in the structure at a place.
+#[tactic(auto, using(crate::proofs::Members::laws))]
 pub fn find_field(
-    file: &[u32],
-    source: &[usize],
+    file: &File<'_>,
     known: &[u32],
     e: u32,
     place: Place,
     room: &[u32],
     at: usize,
 ) -> Target
-    requires { StartsOf file.now source.now × Accepted file.now × Classes file.now known.now × PlaceIn file.now place × DeclaredIn file.now source.now }
-    ensures { Finds file.now place e room.now at result }
+    requires { Classes file.now.source known.now × PlaceIn file.now.source place }
+    ensures { Finds file.now.source place e room.now at result }
 {
-    let name = word(file, source, ENTRIES, e, 1);
+    let name = file.source.word(ENTRIES, e, 1);
     match find(room, at, name) {
-        Found::At(begin, end) => {
-            match field_place(file, source, known, place, name) {
-                field::Found::Place(inner) => Target::At {
-                    begin,
-                    end,
+        Some(span) => {
+            match field_place(file, known, place, name) {
+                Some(inner) => Target::At {
+                    begin: span.begin,
+                    end: span.end,
                     name,
                     place: inner,
                 },
-                field::Found::None => Target::None,
+                None => Target::None,
             }
         }
-        Found::Nothing => Target::None,
+        None => Target::None,
     }
 }
 
 // A member's new value, which stands behind the structure, takes its place there.
+#[tactic(auto, using(crate::proofs::Members::laws))]
 pub fn put_member(
     b: Built,
     at: usize,
@@ -370,9 +385,9 @@ pub fn put_member(
                 },
                 name,
             ) {
-                Grown::Ends(e) => Built::Ends(e),
-                Grown::TooLarge => Built::TooLarge,
-                Grown::Not => Built::None,
+                Ok(e) => Built::Ends(e),
+                Err(Unfit::TooLarge) => Built::TooLarge,
+                Err(Unfit::Outside) => Built::None,
             }
         }
         Built::None => Built::None,

@@ -1,4 +1,6 @@
 // The defaults of an array's elements, listed flat: `build` forms them under a head, which is taken away.
+#![tactic(auto, using(crate::proofs::Elements::laws))]
+
 ghost use Rattle.std.specs.Prelude.{◌+◌, ◌*◌};
 ghost use Rattle.places.specs.Inside.{PlaceIn};
 ghost use Rattle.build.specs.Built.{Ready};
@@ -11,6 +13,7 @@ use build::defaults;
 use build::spread::flatten_values;
 use definition::layout::NODE_WORDS;
 use definition::records::{Place, Shape};
+use records::file::File;
 
 // The values of an array, moved to where its head was.
 fn take_head(b: Built, room: &mut [u32], at: usize) -> Listed
@@ -34,16 +37,15 @@ fn take_head(b: Built, room: &mut [u32], at: usize) -> Listed
 
 // Every element's default, listed flat.
 pub fn element_defaults(
-    file: &[u32],
-    source: &[usize],
+    file: &File<'_>,
     known: &[u32],
     store: &[u32],
     place: Place,
     room: &mut [u32],
     at: usize,
 ) -> Listed
-    requires { Ready file.now source.now known.now store.now × PlaceIn file.now place × RoomThere room.old at (12282 + 24576 * shapes_deep file.now) }
-    ensures { ElementDefaults file.now known.now store.now place room.old at result room.new }
+    requires { Ready file.now.source known.now store.now × PlaceIn file.now.source place × RoomThere room.old at (12282 + 24576 * shapes_deep file.now.source) }
+    ensures { ElementDefaults file.now.source known.now store.now place room.old at result room.new }
 {
     let shape = place.shape;
     let Shape::Array {
@@ -54,8 +56,6 @@ pub fn element_defaults(
     else {
         return Listed::None;
     };
-    let b = defaults::element_defaults(
-        file, source, known, store, place, element, first, count, room, at,
-    );
+    let b = defaults::element_defaults(file, known, store, place, element, first, count, room, at);
     take_head(b, room, at)
 }

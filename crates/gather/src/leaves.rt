@@ -1,12 +1,12 @@
 // Values without parts.
+#![tactic(auto, using(crate::proofs::Single::laws))]
+
 ghost use Rattle.std.specs.Prelude.{◌≡◌, ℕ, ◌+◌, ◌*◌, ◌<◌};
 ghost use Rattle.definition.specs.Layout as Layout;
 ghost use Rattle.definition.specs.Layout.{entries};
 ghost use Rattle.definition.specs.Records.{entry_at};
 ghost use Rattle.definition.specs.Scalar.{as_tree};
-ghost use Rattle.laws.specs.Accepted.{Accepted};
-ghost use Rattle.records.specs.Starts.{StartsOf};
-ghost use Rattle.scalar.specs.Node.{result_of};
+ghost use Rattle.definition.specs.Ask.{result_of};
 ghost use Rattle.places.specs.Inside.{ShapeIn, PlaceIn};
 ghost use Rattle.tree_changes.specs.Limit.{added_of};
 ghost use Rattle.gather.specs.declared.answers.Listed.TheVariants.{Ends};
@@ -15,41 +15,39 @@ ghost use Rattle.gather.specs.Leaves.{simple_of, on_added, Puts, Pushes, PushesT
 use crate::answers::{Filling, Listed};
 use build::built::Built;
 use definition::layout::NODE_WORDS;
-use definition::records::{Entry, Place, Shape};
+use definition::records::{Constant, Entry, Place, Shape};
 use places::expressions::expression;
 use places::values::{constant_value, enumerated_value};
-use records::view::entry_at;
-use scalar::node::Leaf;
-use tree::extent::Extent;
+use records::file::File;
 use tree::node::write_leaf;
-use tree_changes::limit::{Added, may_add};
+use tree_changes::limit::{Misfit, may_add};
 
 // What a constant, an enumerated value or an expression gives a place.
-pub fn simple(file: &[u32], source: &[usize], shape: Shape, e: u32) -> Leaf
-    requires { StartsOf file.now source.now × Accepted file.now × ShapeIn file.now shape × (e < Layout.count file.now entries) }
-    ensures { as_tree (result_of result) ≡ simple_of file.now shape (entry_at file.now e) }
+pub fn simple(file: &File<'_>, shape: Shape, e: u32) -> Option<Constant>
+    requires { ShapeIn file.now.source shape × (e < Layout.count file.now.source entries) }
+    ensures { as_tree (result_of result) ≡ simple_of file.now.source shape (entry_at file.now.source e) }
 {
-    let entry = entry_at(file, source, e);
+    let entry = file.source.entry(e);
     match entry {
-        Entry::Constant { number } => constant_value(file, source, shape, number),
+        Entry::Constant { number } => constant_value(file, shape, number),
         Entry::Enumerated { value, qualifier } => {
-            enumerated_value(file, source, shape, value, qualifier)
+            enumerated_value(file, shape, value, qualifier)
         }
-        Entry::Expression { number } => expression(file, source, shape, number),
-        _ => Leaf::None,
+        Entry::Expression { number } => expression(file, shape, number),
+        _ => None,
     }
 }
 
 // Writes a value at a place.
-pub fn put_leaf(value: Leaf, room: &mut [u32], at: usize) -> Built
+pub fn put_leaf(value: Option<Constant>, room: &mut [u32], at: usize) -> Built
     ensures { Puts value room.old at result room.new }
 {
     match value {
-        Leaf::Value(c) => match write_leaf(room, at, c.kind, c.sign, c.low, c.high, c.width) {
-            Extent::Ends(end) => Built::Ends(end),
-            Extent::Not => Built::None,
+        Some(c) => match write_leaf(room, at, c.kind, c.sign, c.low, c.high, c.width) {
+            Some(end) => Built::Ends(end),
+            None => Built::None,
         },
-        Leaf::None => Built::None,
+        None => Built::None,
     }
 }
 
@@ -68,13 +66,13 @@ fn push_one(l: Filling, end: usize, nodes: usize) -> Listed
     ensures { result ≡ on_added (added_of l.places l.made l.size 1 nodes) (Ends end (l.made + 1) (l.size + nodes)) }
 {
     match may_add(l.places, l.made, l.size, 1, nodes) {
-        Added::Fits => Listed::Ends {
+        Ok(()) => Listed::Ends {
             end,
             made: l.made + 1,
             size: l.size + nodes,
         },
-        Added::TooMany => Listed::None,
-        Added::TooLarge => Listed::TooLarge,
+        Err(Misfit::TooMany) => Listed::None,
+        Err(Misfit::TooLarge) => Listed::TooLarge,
     }
 }
 
@@ -94,7 +92,7 @@ pub fn push_tree(b: Built, l: Filling, at: usize) -> Listed
 }
 
 // Writes the next value of an array.
-pub fn push_leaf(value: Leaf, l: Filling, room: &mut [u32], at: usize) -> Listed
+pub fn push_leaf(value: Option<Constant>, l: Filling, room: &mut [u32], at: usize) -> Listed
     ensures { Pushes value l room.old at result room.new }
 {
     let b = put_leaf(value, room, at);
@@ -102,36 +100,30 @@ pub fn push_leaf(value: Leaf, l: Filling, room: &mut [u32], at: usize) -> Listed
 }
 
 // What an entry that is no list gives the next place of an array.
+#[tactic(auto, using(crate::proofs::Single::simples))]
 pub fn push_simple(
-    file: &[u32],
-    source: &[usize],
+    file: &File<'_>,
     e: u32,
     leaf: Place,
     l: Filling,
     room: &mut [u32],
     at: usize,
 ) -> Listed
-    requires { StartsOf file.now source.now × Accepted file.now × PlaceIn file.now leaf × (e < Layout.count file.now entries) }
-    ensures { PushesSimple file.now e leaf l room.old at result room.new }
+    requires { PlaceIn file.now.source leaf × (e < Layout.count file.now.source entries) }
+    ensures { PushesSimple file.now.source e leaf l room.old at result room.new }
 {
     let shape = leaf.shape;
-    let value = simple(file, source, shape, e);
+    let value = simple(file, shape, e);
     push_leaf(value, l, room, at)
 }
 
 // And a member.
-pub fn put_simple(
-    file: &[u32],
-    source: &[usize],
-    e: u32,
-    place: Place,
-    room: &mut [u32],
-    at: usize,
-) -> Built
-    requires { StartsOf file.now source.now × Accepted file.now × PlaceIn file.now place × (e < Layout.count file.now entries) }
-    ensures { PutsSimple file.now e place room.old at result room.new }
+#[tactic(auto, using(crate::proofs::Single::simples))]
+pub fn put_simple(file: &File<'_>, e: u32, place: Place, room: &mut [u32], at: usize) -> Built
+    requires { PlaceIn file.now.source place × (e < Layout.count file.now.source entries) }
+    ensures { PutsSimple file.now.source e place room.old at result room.new }
 {
     let shape = place.shape;
-    let value = simple(file, source, shape, e);
+    let value = simple(file, shape, e);
     put_leaf(value, room, at)
 }

@@ -10,13 +10,13 @@ ghost use Rattle.initial.specs.Rooms.{entry_levels};
 use build::built::Built;
 use definition::records::Place;
 use entries::entries::array;
+use records::file::File;
 use tree::node::write_structure;
 use tree::part::{Value, value_at};
 
 // An array with the values of a run of entries.
 pub fn array_of(
-    file: &[u32],
-    source: &[usize],
+    file: &File<'_>,
     known: &[u32],
     store: &[u32],
     place: Place,
@@ -25,16 +25,15 @@ pub fn array_of(
     room: &mut [u32],
     at: usize,
 ) -> Built
-    requires { Ready file.now source.now known.now store.now × PlaceIn file.now place × ArrayIn file.now first many × (at + entry_levels file.now first many place * tree_words ≤ length room.old) }
-    ensures { Builds file.now known.now store.now flatten (array_of file.now place first many) at room.old result room.new }
+    requires { Ready file.now.source known.now store.now × PlaceIn file.now.source place × ArrayIn file.now.source first many × (at + entry_levels file.now.source first many place * tree_words ≤ length room.old) }
+    ensures { Builds file.now.source known.now store.now flatten (array_of file.now.source place first many) at room.old result room.new }
 {
-    array(file, source, known, store, place, first, many, room, at)
+    array(file, known, store, place, first, many, room, at)
 }
 
 // A member list over the tree from `at` to `end`: a structure, whose fields get a head of their own, or the answer is none.
 pub fn apply_members(
-    file: &[u32],
-    source: &[usize],
+    file: &File<'_>,
     known: &[u32],
     store: &[u32],
     place: Place,
@@ -44,15 +43,16 @@ pub fn apply_members(
     at: usize,
     end: usize,
 ) -> Built
-    requires { Ready file.now source.now known.now store.now × PlaceIn file.now place × MembersIn file.now first many × SmallAt room.old at end × (at + entry_levels file.now first many place * tree_words ≤ length room.old) }
-    ensures { Applies file.now known.now store.now place first many at end room.old result room.new }
+    requires { Ready file.now.source known.now store.now × PlaceIn file.now.source place × MembersIn file.now.source first many × SmallAt room.old at end × (at + entry_levels file.now.source first many place * tree_words ≤ length room.old) }
+    ensures { Applies file.now.source known.now store.now place first many at end room.old result room.new }
 {
-    let v = value_at(&room[..], at);
-    let Value::Structure(count) = v else {
+    let value = match value_at(&room[..], at) {
+        Some(value) => value,
+        None => return Built::None,
+    };
+    let Value::Structure(count) = value else {
         return Built::None;
     };
     write_structure(room, at, count);
-    entries::entries::apply_members(
-        file, source, known, store, first, many, place, room, at, end,
-    )
+    entries::entries::apply_members(file, known, store, first, many, place, room, at, end)
 }

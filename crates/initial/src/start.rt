@@ -12,12 +12,11 @@ use crate::values::Stated;
 use build::built::Built;
 use build::defaults::default_of;
 use definition::records::{Initializer, Place};
-use records::view::initializer_at;
+use records::file::File;
 
 // What an initializer gives a place.
 pub fn initializer(
-    file: &[u32],
-    source: &[usize],
+    file: &File<'_>,
     known: &[u32],
     store: &[u32],
     place: Place,
@@ -25,15 +24,14 @@ pub fn initializer(
     room: &mut [u32],
     at: usize,
 ) -> Built
-    requires { Ready file.now source.now known.now store.now × PlaceIn file.now place × (i < count file.now initializers) × (at + init_levels file.now i place * tree_words ≤ length room.old) }
-    ensures { Builds file.now known.now store.now flatten (Defaults.initializer file.now i place) at room.old result room.new }
+    requires { Ready file.now.source known.now store.now × PlaceIn file.now.source place × (i < count file.now.source initializers) × (at + init_levels file.now.source i place * tree_words ≤ length room.old) }
+    ensures { Builds file.now.source known.now store.now flatten (Defaults.initializer file.now.source i place) at room.old result room.new }
 {
-    let v = initializer_at(file, source, i);
+    let v = file.source.initializer(i);
     match v {
-        Initializer::Nothing => default_of(file, source, known, store, place, room, at),
+        Initializer::Nothing => default_of(file, known, store, place, room, at),
         Initializer::Subrange { value } => stated_or_default(
             file,
-            source,
             known,
             store,
             place,
@@ -44,7 +42,6 @@ pub fn initializer(
         ),
         Initializer::Simple { value } => stated_or_default(
             file,
-            source,
             known,
             store,
             place,
@@ -57,20 +54,9 @@ pub fn initializer(
             value,
             length: _,
             width: _,
-        } => stated_or_default(
-            file,
-            source,
-            known,
-            store,
-            place,
-            Stated::Constant,
-            value,
-            room,
-            at,
-        ),
+        } => stated_or_default(file, known, store, place, Stated::Constant, value, room, at),
         Initializer::EnumeratedValues { value } => stated_or_default(
             file,
-            source,
             known,
             store,
             place,
@@ -81,7 +67,6 @@ pub fn initializer(
         ),
         Initializer::EnumeratedType { value } => stated_or_default(
             file,
-            source,
             known,
             store,
             place,
@@ -91,17 +76,16 @@ pub fn initializer(
             at,
         ),
         Initializer::FunctionBlock { first, count } => members_over_default(
-            file, source, known, store, place, first, count, room, at,
+            file, known, store, place, first, count, room, at,
         ),
         Initializer::Structure { first, count } => members_over_default(
-            file, source, known, store, place, first, count, room, at,
+            file, known, store, place, first, count, room, at,
         ),
         Initializer::Array { first, count } => array_or_default(
-            file, source, known, store, place, first, count, room, at,
+            file, known, store, place, first, count, room, at,
         ),
         Initializer::Reference { value } => stated_or_default(
             file,
-            source,
             known,
             store,
             place,
@@ -112,7 +96,6 @@ pub fn initializer(
         ),
         Initializer::LateResolved { value } => stated_or_default(
             file,
-            source,
             known,
             store,
             place,

@@ -20,11 +20,12 @@ use build::defaults::{default_of, implicit};
 use build::remembered::type_default;
 use definition::layout::INLINE;
 use definition::records::Place;
+use records::file::File;
+use records::source::Source;
 
 // What is stated for a place, or its default.
 pub fn stated_or_default(
-    file: &[u32],
-    source: &[usize],
+    file: &File<'_>,
     known: &[u32],
     store: &[u32],
     place: Place,
@@ -33,19 +34,18 @@ pub fn stated_or_default(
     room: &mut [u32],
     at: usize,
 ) -> Built
-    requires { Ready file.now source.now known.now store.now × PlaceIn file.now place × ValueIn file.now what value × (at + start_levels file.now place * tree_words ≤ length room.old) }
-    ensures { Builds file.now known.now store.now flatten (stated_or file.now what place value (default_of file.now place)) at room.old result room.new }
+    requires { Ready file.now.source known.now store.now × PlaceIn file.now.source place × ValueIn file.now.source what value × (at + start_levels file.now.source place * tree_words ≤ length room.old) }
+    ensures { Builds file.now.source known.now store.now flatten (stated_or file.now.source what place value (default_of file.now.source place)) at room.old result room.new }
 {
     if value == 0 {
-        return default_of(file, source, known, store, place, room, at);
+        return default_of(file, known, store, place, room, at);
     }
-    stated_start(file, source, place, what, value - 1, room, at)
+    stated_start(file, place, what, value - 1, room, at)
 }
 
 // A constant, or the implicit default.
 pub fn constant_or_implicit(
-    file: &[u32],
-    source: &[usize],
+    file: &File<'_>,
     known: &[u32],
     store: &[u32],
     place: Place,
@@ -53,19 +53,18 @@ pub fn constant_or_implicit(
     room: &mut [u32],
     at: usize,
 ) -> Built
-    requires { Ready file.now source.now known.now store.now × PlaceIn file.now place × ValueIn file.now stated.Constant value × (at + implicit_levels file.now place * tree_words ≤ length room.old) }
-    ensures { Builds file.now known.now store.now flatten (stated_or file.now stated.Constant place value (Defaults.implicit file.now place)) at room.old result room.new }
+    requires { Ready file.now.source known.now store.now × PlaceIn file.now.source place × ValueIn file.now.source stated.Constant value × (at + implicit_levels file.now.source place * tree_words ≤ length room.old) }
+    ensures { Builds file.now.source known.now store.now flatten (stated_or file.now.source stated.Constant place value (Defaults.implicit file.now.source place)) at room.old result room.new }
 {
     if value == 0 {
-        return implicit(file, source, known, store, place, room, at);
+        return implicit(file, known, store, place, room, at);
     }
-    stated_start(file, source, place, Stated::Constant, value - 1, room, at)
+    stated_start(file, place, Stated::Constant, value - 1, room, at)
 }
 
 // An array of entries, or the default of the place.
 pub fn array_or_default(
-    file: &[u32],
-    source: &[usize],
+    file: &File<'_>,
     known: &[u32],
     store: &[u32],
     place: Place,
@@ -74,19 +73,18 @@ pub fn array_or_default(
     room: &mut [u32],
     at: usize,
 ) -> Built
-    requires { Ready file.now source.now known.now store.now × PlaceIn file.now place × ArrayIn file.now first many × (at + start_levels file.now place * tree_words ≤ length room.old) × (at + entry_levels file.now first many place * tree_words ≤ length room.old) }
-    ensures { Builds file.now known.now store.now flatten (array_or file.now place first many (default_of file.now place)) at room.old result room.new }
+    requires { Ready file.now.source known.now store.now × PlaceIn file.now.source place × ArrayIn file.now.source first many × (at + start_levels file.now.source place * tree_words ≤ length room.old) × (at + entry_levels file.now.source first many place * tree_words ≤ length room.old) }
+    ensures { Builds file.now.source known.now store.now flatten (array_or file.now.source place first many (default_of file.now.source place)) at room.old result room.new }
 {
     if many == 0 {
-        return default_of(file, source, known, store, place, room, at);
+        return default_of(file, known, store, place, room, at);
     }
-    array_of(file, source, known, store, place, first, many, room, at)
+    array_of(file, known, store, place, first, many, room, at)
 }
 
 // A member list over the default of the place.
 pub fn members_over_default(
-    file: &[u32],
-    source: &[usize],
+    file: &File<'_>,
     known: &[u32],
     store: &[u32],
     place: Place,
@@ -95,21 +93,19 @@ pub fn members_over_default(
     room: &mut [u32],
     at: usize,
 ) -> Built
-    requires { Ready file.now source.now known.now store.now × PlaceIn file.now place × MembersIn file.now first many × (at + start_levels file.now place * tree_words ≤ length room.old) × (at + entry_levels file.now first many place * tree_words ≤ length room.old) }
-    ensures { Builds file.now known.now store.now flatten (members_over file.now place first many (default_of file.now place)) at room.old result room.new }
+    requires { Ready file.now.source known.now store.now × PlaceIn file.now.source place × MembersIn file.now.source first many × (at + start_levels file.now.source place * tree_words ≤ length room.old) × (at + entry_levels file.now.source first many place * tree_words ≤ length room.old) }
+    ensures { Builds file.now.source known.now store.now flatten (members_over file.now.source place first many (default_of file.now.source place)) at room.old result room.new }
 {
-    let r = default_of(file, source, known, store, place, room, at);
+    let r = default_of(file, known, store, place, room, at);
     let Built::Ends(end) = r else {
         return r;
     };
-    apply_members(
-        file, source, known, store, place, first, many, room, at, end,
-    )
+    apply_members(file, known, store, place, first, many, room, at, end)
 }
 
 // The default of a named type; none for a name that is unknown.
 pub fn name_default(
-    file: &[u32],
+    file: &Source<'_>,
     known: &[u32],
     store: &[u32],
     name: u32,
@@ -127,8 +123,7 @@ pub fn name_default(
 
 // The same, or the implicit default where the type is spelled in place.
 pub fn spec_default(
-    file: &[u32],
-    source: &[usize],
+    file: &File<'_>,
     known: &[u32],
     store: &[u32],
     place: Place,
@@ -136,19 +131,18 @@ pub fn spec_default(
     room: &mut [u32],
     at: usize,
 ) -> Built
-    requires { Ready file.now source.now known.now store.now × PlaceIn file.now place × SpecIn file.now name × (at + implicit_levels file.now place * tree_words ≤ length room.old) }
-    ensures { Builds file.now known.now store.now flatten (spec_default file.now place name) at room.old result room.new }
+    requires { Ready file.now.source known.now store.now × PlaceIn file.now.source place × SpecIn file.now.source name × (at + implicit_levels file.now.source place * tree_words ≤ length room.old) }
+    ensures { Builds file.now.source known.now store.now flatten (spec_default file.now.source place name) at room.old result room.new }
 {
     if name == INLINE {
-        return implicit(file, source, known, store, place, room, at);
+        return implicit(file, known, store, place, room, at);
     }
-    name_default(file, known, store, name, room, at)
+    name_default(&file.source, known, store, name, room, at)
 }
 
 // A constant, or the default of a named type.
 pub fn constant_or_named(
-    file: &[u32],
-    source: &[usize],
+    file: &File<'_>,
     known: &[u32],
     store: &[u32],
     place: Place,
@@ -157,19 +151,18 @@ pub fn constant_or_named(
     room: &mut [u32],
     at: usize,
 ) -> Built
-    requires { Ready file.now source.now known.now store.now × PlaceIn file.now place × ValueIn file.now stated.Constant value × Link (IsType file.now) name × (at + tree_words ≤ length room.old) }
-    ensures { Builds file.now known.now store.now flatten (stated_or file.now stated.Constant place value (name_default name)) at room.old result room.new }
+    requires { Ready file.now.source known.now store.now × PlaceIn file.now.source place × ValueIn file.now.source stated.Constant value × Link (IsType file.now.source) name × (at + tree_words ≤ length room.old) }
+    ensures { Builds file.now.source known.now store.now flatten (stated_or file.now.source stated.Constant place value (name_default name)) at room.old result room.new }
 {
     if value == 0 {
-        return name_default(file, known, store, name, room, at);
+        return name_default(&file.source, known, store, name, room, at);
     }
-    stated_start(file, source, place, Stated::Constant, value - 1, room, at)
+    stated_start(file, place, Stated::Constant, value - 1, room, at)
 }
 
 // An array of entries, or the default of a type that is named or spelled in place.
 pub fn array_or_spec(
-    file: &[u32],
-    source: &[usize],
+    file: &File<'_>,
     known: &[u32],
     store: &[u32],
     place: Place,
@@ -179,19 +172,18 @@ pub fn array_or_spec(
     room: &mut [u32],
     at: usize,
 ) -> Built
-    requires { Ready file.now source.now known.now store.now × PlaceIn file.now place × SpecIn file.now name × ArrayIn file.now first many × (at + implicit_levels file.now place * tree_words ≤ length room.old) × (at + entry_levels file.now first many place * tree_words ≤ length room.old) }
-    ensures { Builds file.now known.now store.now flatten (array_or file.now place first many (spec_default file.now place name)) at room.old result room.new }
+    requires { Ready file.now.source known.now store.now × PlaceIn file.now.source place × SpecIn file.now.source name × ArrayIn file.now.source first many × (at + implicit_levels file.now.source place * tree_words ≤ length room.old) × (at + entry_levels file.now.source first many place * tree_words ≤ length room.old) }
+    ensures { Builds file.now.source known.now store.now flatten (array_or file.now.source place first many (spec_default file.now.source place name)) at room.old result room.new }
 {
     if many == 0 {
-        return spec_default(file, source, known, store, place, name, room, at);
+        return spec_default(file, known, store, place, name, room, at);
     }
-    array_of(file, source, known, store, place, first, many, room, at)
+    array_of(file, known, store, place, first, many, room, at)
 }
 
 // A member list over the default of a named type.
 pub fn members_over_named(
-    file: &[u32],
-    source: &[usize],
+    file: &File<'_>,
     known: &[u32],
     store: &[u32],
     place: Place,
@@ -201,14 +193,12 @@ pub fn members_over_named(
     room: &mut [u32],
     at: usize,
 ) -> Built
-    requires { Ready file.now source.now known.now store.now × PlaceIn file.now place × Link (IsType file.now) name × MembersIn file.now first many × (at + tree_words ≤ length room.old) × (at + entry_levels file.now first many place * tree_words ≤ length room.old) }
-    ensures { Builds file.now known.now store.now flatten (members_over file.now place first many (name_default name)) at room.old result room.new }
+    requires { Ready file.now.source known.now store.now × PlaceIn file.now.source place × Link (IsType file.now.source) name × MembersIn file.now.source first many × (at + tree_words ≤ length room.old) × (at + entry_levels file.now.source first many place * tree_words ≤ length room.old) }
+    ensures { Builds file.now.source known.now store.now flatten (members_over file.now.source place first many (name_default name)) at room.old result room.new }
 {
-    let r = name_default(file, known, store, name, room, at);
+    let r = name_default(&file.source, known, store, name, room, at);
     let Built::Ends(end) = r else {
         return r;
     };
-    apply_members(
-        file, source, known, store, place, first, many, room, at, end,
-    )
+    apply_members(file, known, store, place, first, many, room, at, end)
 }

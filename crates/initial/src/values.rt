@@ -8,20 +8,18 @@ ghost use Rattle.definition.specs.Tree.{null_tree, reference_tree};
 ghost use Rattle.definition.specs.Scalar.{as_tree};
 ghost use Rattle.definition.specs.Parts.{enumerated_as, reference_as};
 ghost use Rattle.definition.specs.Starting.{constant_as};
-ghost use Rattle.laws.specs.Accepted.{Accepted};
-ghost use Rattle.records.specs.Starts.{StartsOf};
-ghost use Rattle.scalar.specs.Node.{result_of};
+ghost use Rattle.definition.specs.Ask.{result_of};
 ghost use Rattle.places.specs.Inside.{PlaceIn};
 ghost use Rattle.initial.specs.Stated.{stated_as, StatedIn, Lays};
 
 use build::built::Built;
 use build::leaves::put_leaf;
 use definition::layout::{ENTRIES, EXPRESSIONS};
-use definition::records::Place;
+use definition::records::{Constant, Place};
 use places::values::{constant_value, enumerated_value};
-use records::words::word;
+use records::file::File;
+use records::source::Source;
 use scalar::node;
-use scalar::node::Leaf;
 
 // What a value's link leads to. A late resolved initializer states a constant that gives none.
 #[derive(Clone, Copy)]
@@ -33,77 +31,61 @@ pub enum Stated {
 }
 
 // A constant.
-pub fn constant_start(
-    file: &[u32],
-    source: &[usize],
-    place: Place,
-    c: u32,
-    room: &mut [u32],
-    at: usize,
-) -> Built
-    requires { StartsOf file.now source.now × Accepted file.now × PlaceIn file.now place × (c < Layout.count file.now constants) × (at + 6 ≤ length room.old) }
-    ensures { Lays (constant_as file.now place c) at room.old result room.new }
+pub fn constant_start(file: &File<'_>, place: Place, c: u32, room: &mut [u32], at: usize) -> Built
+    requires { PlaceIn file.now.source place × (c < Layout.count file.now.source constants) × (at + 6 ≤ length room.old) }
+    ensures { Lays (constant_as file.now.source place c) at room.old result room.new }
 {
     let shape = place.shape;
-    let leaf = constant_value(file, source, shape, c);
+    let leaf = constant_value(file, shape, c);
     put_leaf(leaf, room, at)
 }
 
 // An enumerated value.
-fn enumerated_start(
-    file: &[u32],
-    source: &[usize],
-    place: Place,
-    e: u32,
-    room: &mut [u32],
-    at: usize,
-) -> Built
-    requires { StartsOf file.now source.now × Accepted file.now × PlaceIn file.now place × (at + 6 ≤ length room.old) }
-    ensures { Lays (enumerated_as file.now place e) at room.old result room.new }
+fn enumerated_start(file: &File<'_>, place: Place, e: u32, room: &mut [u32], at: usize) -> Built
+    requires { PlaceIn file.now.source place × (at + 6 ≤ length room.old) }
+    ensures { Lays (enumerated_as file.now.source place e) at room.old result room.new }
 {
     let shape = place.shape;
-    let value = word(file, source, ENTRIES, e, 2);
-    let qualifier = word(file, source, ENTRIES, e, 3);
-    let leaf = enumerated_value(file, source, shape, value, qualifier);
+    let value = file.source.word(ENTRIES, e, 2);
+    let qualifier = file.source.word(ENTRIES, e, 3);
+    let leaf = enumerated_value(file, shape, value, qualifier);
     put_leaf(leaf, room, at)
 }
 
 // Null, or the variable that is referred to.
-fn reference_leaf(file: &[u32], source: &[usize], x: u32) -> Leaf
-    requires { StartsOf file.now source.now }
+fn reference_leaf(file: &Source<'_>, x: u32) -> Option<Constant>
     ensures { as_tree (result_of result) ≡ ok (pick (eqb (Layout.word file.now expressions x 0) 4) null_tree (reference_tree x)) }
 {
-    if word(file, source, EXPRESSIONS, x, 0) == 4 {
-        return Leaf::Value(node::null());
+    if file.word(EXPRESSIONS, x, 0) == 4 {
+        return Some(node::null());
     }
-    Leaf::Value(node::reference(x))
+    Some(node::reference(x))
 }
 
-fn reference_start(file: &[u32], source: &[usize], x: u32, room: &mut [u32], at: usize) -> Built
-    requires { StartsOf file.now source.now × (at + 6 ≤ length room.old) }
+fn reference_start(file: &Source<'_>, x: u32, room: &mut [u32], at: usize) -> Built
+    requires { (at + 6 ≤ length room.old) }
     ensures { Lays (reference_as file.now x) at room.old result room.new }
 {
-    let leaf = reference_leaf(file, source, x);
+    let leaf = reference_leaf(file, x);
     put_leaf(leaf, room, at)
 }
 
 // The value that a place is stated to have.
 pub fn stated_start(
-    file: &[u32],
-    source: &[usize],
+    file: &File<'_>,
     place: Place,
     what: Stated,
     n: u32,
     room: &mut [u32],
     at: usize,
 ) -> Built
-    requires { StartsOf file.now source.now × Accepted file.now × PlaceIn file.now place × StatedIn file.now what n × (at + 6 ≤ length room.old) }
-    ensures { Lays (stated_as file.now what place n) at room.old result room.new }
+    requires { PlaceIn file.now.source place × StatedIn file.now.source what n × (at + 6 ≤ length room.old) }
+    ensures { Lays (stated_as file.now.source what place n) at room.old result room.new }
 {
     match what {
-        Stated::Constant => constant_start(file, source, place, n, room, at),
-        Stated::Enumerated => enumerated_start(file, source, place, n, room, at),
-        Stated::Reference => reference_start(file, source, n, room, at),
+        Stated::Constant => constant_start(file, place, n, room, at),
+        Stated::Enumerated => enumerated_start(file, place, n, room, at),
+        Stated::Reference => reference_start(&file.source, n, room, at),
         Stated::Nothing => Built::None,
     }
 }
@@ -112,6 +94,6 @@ pub fn null_start(room: &mut [u32], at: usize) -> Built
     requires { at + 6 ≤ length room.old }
     ensures { Lays (give null_tree) at room.old result room.new }
 {
-    let leaf = Leaf::Value(node::null());
+    let leaf = Some(node::null());
     put_leaf(leaf, room, at)
 }

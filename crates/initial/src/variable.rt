@@ -4,7 +4,6 @@ ghost use Rattle.definition.specs.Layout as Layout;
 ghost use Rattle.definition.specs.Layout.{variables};
 ghost use Rattle.definition.specs.Starting as Defaults;
 ghost use Rattle.definition.specs.Tree.{flatten, tree_words};
-ghost use Rattle.records.specs.Starts.{StartsOf};
 ghost use Rattle.build.specs.Built.{Ready, Builds};
 ghost use Rattle.initial.specs.Stated.{variable_start};
 ghost use Rattle.initial.specs.Rooms.{variable_levels};
@@ -12,15 +11,15 @@ ghost use Rattle.initial.specs.Rooms.{variable_levels};
 use crate::start::initializer;
 use build::built::Built;
 use definition::layout::VARIABLES;
-use places::field::{Found, variable_place};
-use records::words::word;
+use places::field::variable_place;
+use records::file::File;
+use records::source::Source;
 
 // In-outs and externals start with nothing of their own.
-fn is_outside(file: &[u32], source: &[usize], v: u32) -> bool
-    requires { StartsOf file.now source.now }
+fn is_outside(file: &Source<'_>, v: u32) -> bool
     ensures { result ≡ (eqb (Layout.word file.now variables v 1) 2 || eqb (Layout.word file.now variables v 1) 3) }
 {
-    let kind = word(file, source, VARIABLES, v, 1);
+    let kind = file.word(VARIABLES, v, 1);
     if kind == 2 {
         return true;
     }
@@ -29,42 +28,40 @@ fn is_outside(file: &[u32], source: &[usize], v: u32) -> bool
 
 // What a variable starts with.
 pub fn declaration(
-    file: &[u32],
-    source: &[usize],
+    file: &File<'_>,
     known: &[u32],
     store: &[u32],
     v: u32,
     room: &mut [u32],
     at: usize,
 ) -> Built
-    requires { Ready file.now source.now known.now store.now × (v < Layout.count file.now variables) × (at + variable_levels file.now v * tree_words ≤ length room.old) }
-    ensures { Builds file.now known.now store.now flatten (Defaults.declaration file.now v) at room.old result room.new }
+    requires { Ready file.now.source known.now store.now × (v < Layout.count file.now.source variables) × (at + variable_levels file.now.source v * tree_words ≤ length room.old) }
+    ensures { Builds file.now.source known.now store.now flatten (Defaults.declaration file.now.source v) at room.old result room.new }
 {
-    if is_outside(file, source, v) {
+    if is_outside(&file.source, v) {
         return Built::None;
     }
-    let i = word(file, source, VARIABLES, v, 3);
-    match variable_place(file, source, v, i) {
-        Found::Place(place) => initializer(file, source, known, store, place, i, room, at),
-        Found::None => Built::None,
+    let i = file.source.word(VARIABLES, v, 3);
+    match variable_place(&file.source, v, i) {
+        Some(place) => initializer(file, known, store, place, i, room, at),
+        None => Built::None,
     }
 }
 
 // The same, where it has a name.
 pub fn variable_start(
-    file: &[u32],
-    source: &[usize],
+    file: &File<'_>,
     known: &[u32],
     store: &[u32],
     v: u32,
     room: &mut [u32],
     at: usize,
 ) -> Built
-    requires { Ready file.now source.now known.now store.now × (v < Layout.count file.now variables) × (at + variable_levels file.now v * tree_words ≤ length room.old) }
-    ensures { Builds file.now known.now store.now flatten (variable_start file.now v) at room.old result room.new }
+    requires { Ready file.now.source known.now store.now × (v < Layout.count file.now.source variables) × (at + variable_levels file.now.source v * tree_words ≤ length room.old) }
+    ensures { Builds file.now.source known.now store.now flatten (variable_start file.now.source v) at room.old result room.new }
 {
-    if word(file, source, VARIABLES, v, 0) == 0 {
+    if file.source.word(VARIABLES, v, 0) == 0 {
         return Built::None;
     }
-    declaration(file, source, known, store, v, room, at)
+    declaration(file, known, store, v, room, at)
 }

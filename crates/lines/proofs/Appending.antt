@@ -6,17 +6,15 @@ use Prim.Native.Nat.{ℕ, suc, ◌+◌, ◌*◌, ◌≤◌, ◌<◌, min}
 use native.Mathlib.Omega.{arith}
 use lib.Dec.{leb}
 use lib.ListN.{length, take, drop, set}
-use lib.Seq.{set_out, sets-eq, paste, take-append-le, take-take, drop_at, length-take-le}
+use lib.Seq.{set_out, paste, take-append-le, take-take, drop_at, length-take-le}
 use mir.Syntax.{w32, w64}
 use mir.Val.{Fits}
 use borrow.Author.Tests.{leb-true, leb-false, le-leb, lt-leb}
+use Rattle.std.specs.Prelude.{Option, Some, None}
 use Rattle.laws.specs.Cases.{both}
-use Rattle.tree.specs.declared.extent.Extent.{Extent}
-use Rattle.tree.specs.declared.extent.Extent.TheVariants as extent
 use Rattle.tree.specs.Words.{WroteCopy}
 use Rattle.tree.proofs.Writes.{writes}
 use Rattle.tree.proofs.Standing.{wrote-so-is}
-use Rattle.lines.specs.declared.append.Stored.TheVariants.{Ends, Full}
 use Rattle.lines.specs.Append.{most_words, room, HeadRoom, Headed, Appends, AppendsTree}
 use Rattle.lines.proofs.Copying.{wrote-not-is}
 
@@ -53,12 +51,6 @@ unfolding room
 room-short len end nodes e = leb-false (end + 3 + nodes * 6) (min len most_words) e
 
 -- ---- heads
-pub three-stores : (l : List ℕ) (at a b c : ℕ) → at + 3 ≤ length l → set (set (set l at a) (at + 1) b) (at + 2) c ≡ paste l at (a ∷ b ∷ c ∷ []) 3
-three-stores l at a b c h =
-    let k₁ : at + 1 ≡ suc at = omega arith in
-    let k₂ : at + 2 ≡ suc (suc at) = omega arith in
-    rw (k₁, k₂) (sets-eq (a ∷ b ∷ c ∷ []) l at h)
-
 pub set_past : (l : List ℕ) (i v : ℕ) → length l ≤ i → l ≡ set l i v
 set_past l i v h = sym (set_out l i v h)
 
@@ -82,19 +74,19 @@ and_first true q g h = sym h ∙ g
 and_first false q g h = refl
 
 module _ {test : Bool} (src : List ℕ) (n : ℕ) (index store : List ℕ) (end t : ℕ) {b : Bool} (e : b ≡ test) where
-  pub line-full : b ≡ false → Appends test src n index store end t Full index store
+  pub line-full : b ≡ false → Appends test src n index store end t None index store
   line-full f = let k : test ≡ false = sym e ∙ f in record { says = rw k; marks = rw k; writes = rw k }
 
 module _ (state : ℕ) (index store : List ℕ) (end t : ℕ) {b : Bool} (e : b ≡ room (length store) end 0) where
   pub state-there : b ≡ true → {index' store' : List ℕ} → Headed state 0 index store end t index' store'
-      → Appends (room (length store) end 0) (0 ∷ state ∷ 0 ∷ []) 3 index store end t (Ends (end + 3)) index' store'
+      → Appends (room (length store) end 0) (0 ∷ state ∷ 0 ∷ []) 3 index store end t (Some (end + 3)) index' store'
   state-there f h = let k : room (length store) end 0 ≡ true = sym e ∙ f in record { says = rw k; marks = rw k h.marks; writes = rw k h.writes }
 
 module _ (from : List ℕ) (a nodes : ℕ) (index store : List ℕ) (end t : ℕ) {b : Bool} (e : b ≡ room (length store) end nodes) where
-  pub tree-full : b ≡ false → AppendsTree from a nodes index store end t Full index store
+  pub tree-full : b ≡ false → AppendsTree from a nodes index store end t None index store
   tree-full f = let k : room (length store) end nodes ≡ false = sym e ∙ f in rw k (record { says = refl; marks = refl; writes = refl })
 
-  module _ (f : b ≡ true) {x : Extent} {mid : List ℕ} (w : WroteCopy from a (nodes * 6) store (end + 3) x mid) where
+  module _ (f : b ≡ true) {x : Option ℕ} {mid : List ℕ} (w : WroteCopy from a (nodes * 6) store (end + 3) x mid) where
     roomy : room (length store) end nodes ≡ true
     roomy = sym e ∙ f
 
@@ -104,7 +96,7 @@ module _ (from : List ℕ) (a nodes : ℕ) (index store : List ℕ) (end t : ℕ
     copy_test : Bool
     copy_test = leb (a + nodes * 6) (length from) && leb (end + 3 + nodes * 6) (length store)
 
-    pub tree-not : x ≡ extent.Not → AppendsTree from a nodes index store end t Full index mid
+    pub tree-not : x ≡ None → AppendsTree from a nodes index store end t None index mid
     unfolding copy_test
     tree-not i =
         let z = wrote-not-is copy_test w i in
@@ -112,15 +104,15 @@ module _ (from : List ℕ) (a nodes : ℕ) (index store : List ℕ) (end t : ℕ
         let k : leb (a + nodes * 6) (length from) ≡ false = and_first (leb (a + nodes * 6) (length from)) (leb (end + 3 + nodes * 6) (length store)) z.0 l in
         rw (roomy, k) (record { says = refl; marks = refl; writes = z.1 })
 
-    pub tree-there : {end' : ℕ} → x ≡ extent.Ends end' → {index' store' : List ℕ} → Headed 0 nodes index mid end t index' store'
-        → AppendsTree from a nodes index store end t (Ends end') index' store'
+    pub tree-there : {end' : ℕ} → x ≡ Some end' → {index' store' : List ℕ} → Headed 0 nodes index mid end t index' store'
+        → AppendsTree from a nodes index store end t (Some end') index' store'
     unfolding copy_test
     tree-there {end'} i h =
         let z = wrote-so-is copy_test w i in
         let k = (both (leb (a + nodes * 6) (length from)) (leb (end + 3 + nodes * 6) (length store)) z.0).0 in
         let m : end' ≡ end + (3 + nodes * 6) = omega (arith, z.1) in
         rw (roomy, k) (record {
-          says = ap Ends m;
+          says = ap Some m;
           marks = h.marks;
           writes = h.writes ∙ ap (λ (l : List ℕ). paste l end (0 ∷ 0 ∷ nodes ∷ []) 3) z.2 ∙ head-before store end 0 0 nodes (drop a from) (nodes * 6) (omega (arith, inside));
         })

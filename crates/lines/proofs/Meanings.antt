@@ -10,6 +10,7 @@ use lib.Dec.{leb}
 use lib.ListN.{length, get_or, take, drop}
 use lib.Seq.{get_or-drop, paste, take_all}
 use borrow.Author.Tests.{le-leb, leb-true, leb-false}
+use Rattle.std.specs.Prelude.{Result, Ok, Err}
 use Rattle.definition.specs.Base.{pick}
 use Rattle.definition.specs.Tree as trees
 use Rattle.definition.specs.Ask.{ok, none, large, Outcome, Ask, done, ask, type_default}
@@ -24,8 +25,8 @@ use Rattle.tree.proofs.Stands.{take-drop, stand-rest, stand-back}
 use Rattle.tree.proofs.Standing.{paste-stands}
 use Rattle.lines.specs.declared.look.Remembered.{Remembered}
 use Rattle.lines.specs.declared.look.Remembered.TheVariants as look
-use Rattle.lines.specs.declared.copy.Copied.{Copied}
-use Rattle.lines.specs.declared.copy.Copied.TheVariants.{Unknown, None, TooLarge, Ends, Full}
+use Rattle.lines.specs.declared.copy.Uncopied.{Uncopied}
+use Rattle.lines.specs.declared.copy.Uncopied.TheVariants.{Unknown, None, TooLarge, Full}
 use Rattle.lines.specs.Look.{state_of, line_of, word_of, remembered_of}
 use Rattle.lines.specs.Copy.{copied_of, copied_words, Copies}
 use Rattle.lines.specs.Memory.{LineAt, Holds, Remembers, TreeThere, Looks, CopyThere, CopyFull, CopyLooks}
@@ -117,7 +118,7 @@ module _ {index store : List ℕ} {end : ℕ} {M : Memo} (x : Remembers index st
   peeks-tree i = let y = looks-tree x t h e i in asks-known M t (ok y.tree) done y.is
 
 -- ---- copies
-module _ {store : List ℕ} (old : List ℕ) (p : ℕ) {r : Copied} {new : List ℕ} {l : Look} where
+module _ {store : List ℕ} (old : List ℕ) (p : ℕ) {r : Result ℕ Uncopied} {new : List ℕ} {l : Look} where
   tree-copied : (a n : ℕ) → TreeThere store a n l → r ≡ copied_of (look.Tree a n) store old p → new ≡ copied_words (look.Tree a n) store old p → CopyLooks r old p new l
   unfolding copied_of copied_words
   tree-copied a n y z v = go (leb (p + n * 6) (length old)) refl (rw k at z) (rw k at v)
@@ -128,7 +129,7 @@ module _ {store : List ℕ} (old : List ℕ) (p : ℕ) {r : Copied} {new : List 
       w : take (n * 6) (drop a store) ≡ take (n * 6) (trees.flatten y.tree)
       w = take-drop a (n * 6) store ∙ y.stands.is ∙ sym (take_all (n * 6) (trees.flatten y.tree) (omega (arith, y.stands.long)))
 
-      go : (b : Bool) → leb (p + n * 6) (length old) ≡ b → r ≡ pick b (Ends (p + n * 6)) Full → new ≡ pick b (paste old p (drop a store) (n * 6)) old → CopyLooks r old p new l
+      go : (b : Bool) → leb (p + n * 6) (length old) ≡ b → r ≡ pick b (Ok (p + n * 6)) (Err Full) → new ≡ pick b (paste old p (drop a store) (n * 6)) old → CopyLooks r old p new l
       go true f i j =
           let m = leb-true (p + n * 6) (length old) f in
           rw i (record { tree = y.tree; is = y.is; ends = rw y.count; room = m; wrote = j ∙ rw (y.count, w); small = y.small })
@@ -137,31 +138,31 @@ module _ {store : List ℕ} (old : List ℕ) (p : ℕ) {r : Copied} {new : List 
           rw i (record { tree = y.tree; is = y.is; full = rw y.count m; kept = j })
 
 module _ {index store : List ℕ} {end : ℕ} {M : Memo} (x : Remembers index store end M) (t : ℕ) (h : t < length M)
-    {old : List ℕ} {p : ℕ} {r : Copied} {new : List ℕ} (c : Copies index store t old p r new) where
+    {old : List ℕ} {p : ℕ} {r : Result ℕ Uncopied} {new : List ℕ} (c : Copies index store t old p r new) where
   pub copy-looks : CopyLooks r old p new (at M t)
   unfolding copied_of copied_words
   copy-looks = go (remembered_of index store t) refl (looks x t h)
     where
       go : (w : Remembered) → remembered_of index store t ≡ w → Looks w store (at M t) → CopyLooks r old p new (at M t)
-      go look.Unknown q y = let z : r ≡ Unknown = rw q at c.says in rw z (y, rw q at c.is)
-      go look.None q y = let z : r ≡ None = rw q at c.says in rw z (y, rw q at c.is)
-      go look.TooLarge q y = let z : r ≡ TooLarge = rw q at c.says in rw z (y, rw q at c.is)
+      go look.Unknown q y = let z : r ≡ Err Unknown = rw q at c.says in rw z (y, rw q at c.is)
+      go look.None q y = let z : r ≡ Err None = rw q at c.says in rw z (y, rw q at c.is)
+      go look.TooLarge q y = let z : r ≡ Err TooLarge = rw q at c.says in rw z (y, rw q at c.is)
       go (look.Tree a n) q y = tree-copied old p a n y (rw q at c.says) (rw q at c.is)
 
   -- the same by cases
-  pub copy-unknown : r ≡ Unknown → (at M t ≡ unknown) × (new ≡ old)
+  pub copy-unknown : r ≡ Err Unknown → (at M t ≡ unknown) × (new ≡ old)
   copy-unknown i = rw i at copy-looks
 
-  pub copy-none : r ≡ None → (at M t ≡ known none) × (new ≡ old)
+  pub copy-none : r ≡ Err None → (at M t ≡ known none) × (new ≡ old)
   copy-none i = rw i at copy-looks
 
-  pub copy-large : r ≡ TooLarge → (at M t ≡ known large) × (new ≡ old)
+  pub copy-large : r ≡ Err TooLarge → (at M t ≡ known large) × (new ≡ old)
   copy-large i = rw i at copy-looks
 
-  pub copy-ends : {e : ℕ} → r ≡ Ends e → CopyThere old p e new (at M t)
+  pub copy-ends : {e : ℕ} → r ≡ Ok e → CopyThere old p e new (at M t)
   copy-ends i = rw i at copy-looks
 
-  pub copy-full : r ≡ Full → CopyFull old p new (at M t)
+  pub copy-full : r ≡ Err Full → CopyFull old p new (at M t)
   copy-full i = rw i at copy-looks
 
 -- the tree stands where it was copied to

@@ -10,6 +10,7 @@ use lib.ListN.{length, get_or, take, drop, set, length-set, length-drop, replica
 use lib.Seq.{get_or-set_same, get_or-set_other, paste, length-paste}
 use borrow.Author.Tests.{le-leb}
 use lib.Dec.{leb}
+use Rattle.std.specs.Prelude.{Option, Some, None}
 use Rattle.definition.specs.Tree as trees
 use Rattle.definition.specs.Ask.{ok, none, large, Outcome}
 use Rattle.definition.specs.Resolve.{Look, known, unknown, Memo, at, put, empty}
@@ -22,8 +23,6 @@ use Rattle.laws.specs.Memo.{put-long, put_same, put_other, empty-at, empty-long}
 use Rattle.tree.specs.Words.{Stand}
 use Rattle.tree.proofs.Stands.{take-drop, stand-back}
 use Rattle.tree.proofs.Standing.{paste-stands, paste-before}
-use Rattle.lines.specs.declared.append.Stored.{Stored}
-use Rattle.lines.specs.declared.append.Stored.TheVariants.{Ends, Full}
 use Rattle.lines.specs.Append.{most_words, room, Appends, AppendsState, AppendsTree}
 use Rattle.lines.specs.Memory.{LineAt, Holds, Remembers}
 use Rattle.lines.proofs.Appending.{and_first, room-le, room-short}
@@ -115,35 +114,35 @@ module _ {index store : List ℕ} {end : ℕ} {M : Memo} (x : Remembers index st
 
 -- ---- after each function
 -- an answer that is an end: the line was written
-module _ {src : List ℕ} {n : ℕ} {index store : List ℕ} {end t : ℕ} {r : Stored} {index' store' : List ℕ} where
-  appends-so : (test : Bool) → Appends test src n index store end t r index' store' → {e : ℕ} → r ≡ Ends e
+module _ {src : List ℕ} {n : ℕ} {index store : List ℕ} {end t : ℕ} {r : Option ℕ} {index' store' : List ℕ} where
+  appends-so : (test : Bool) → Appends test src n index store end t r index' store' → {e : ℕ} → r ≡ Some e
       → (test ≡ true) × (e ≡ end + n) × (index' ≡ set index t (end + 2)) × (store' ≡ paste store end src n)
   appends-so true q i = let z = q.says in (refl, cc, q.marks, q.writes)
-  appends-so false q i = let z = q.says in let y : ◌≡◌ {A = ℕ} 0 1 = cc in absurd (omega arith)
+  appends-so false q i = let z = q.says in cc
 
-  -- and `Full`: nothing was
-  pub appends-full : (test : Bool) → Appends test src n index store end t r index' store' → r ≡ Full → (test ≡ false) × (index' ≡ index) × (store' ≡ store)
-  appends-full true q i = let z = q.says in let y : ◌≡◌ {A = ℕ} 0 1 = cc in absurd (omega arith)
+  -- and no end: nothing was
+  pub appends-full : (test : Bool) → Appends test src n index store end t r index' store' → r ≡ None → (test ≡ false) × (index' ≡ index) × (store' ≡ store)
+  appends-full true q i = let z = q.says in cc
   appends-full false q i = (refl, q.marks, q.writes)
 
-module _ {index store : List ℕ} {end : ℕ} {M : Memo} (x : Remembers index store end M) {t : ℕ} {r : Stored} {index' store' : List ℕ} {e : ℕ} where
-  state-remembers : (state : ℕ) (o : Outcome) → outcome_words o ≡ state ∷ 0 ∷ [] → OnOk Small o → AppendsState state index store end t r index' store' → r ≡ Ends e
+module _ {index store : List ℕ} {end : ℕ} {M : Memo} (x : Remembers index store end M) {t : ℕ} {r : Option ℕ} {index' store' : List ℕ} {e : ℕ} where
+  state-remembers : (state : ℕ) (o : Outcome) → outcome_words o ≡ state ∷ 0 ∷ [] → OnOk Small o → AppendsState state index store end t r index' store' → r ≡ Some e
       → Remembers index' store' e (put M t o)
   state-remembers state o w s q i =
       let z = appends-so (room (length store) end 0) q i in
       let h = room-le (length store) end 0 refl z.0 in
       rw (z.1, z.2, z.3) (remembers-line x (0 ∷ state ∷ 0 ∷ []) 3 (omega arith) (omega arith) t 0 o (ap (λ (l : List ℕ). 0 ∷ l) (sym w)) s)
 
-  pub remembers-none : AppendsState 1 index store end t r index' store' → r ≡ Ends e → Remembers index' store' e (put M t none)
+  pub remembers-none : AppendsState 1 index store end t r index' store' → r ≡ Some e → Remembers index' store' e (put M t none)
   unfolding outcome_words
   remembers-none q i = state-remembers 1 none refl tt q i
 
-  pub remembers-large : AppendsState 2 index store end t r index' store' → r ≡ Ends e → Remembers index' store' e (put M t large)
+  pub remembers-large : AppendsState 2 index store end t r index' store' → r ≡ Some e → Remembers index' store' e (put M t large)
   unfolding outcome_words
   remembers-large q i = state-remembers 2 large refl tt q i
 
   -- the nodes were those of a small tree
-  pub remembers-tree : (from : List ℕ) (a n : ℕ) → AppendsTree from a n index store end t r index' store' → r ≡ Ends e
+  pub remembers-tree : (from : List ℕ) (a n : ℕ) → AppendsTree from a n index store end t r index' store' → r ≡ Some e
       → (tree : trees.Tree) → trees.nodes tree ≡ n → Small tree → Stand from a (trees.flatten tree) (a + n * 6) → Remembers index' store' e (put M t (ok tree))
   unfolding outcome_words
   remembers-tree from a n q i tree c s y =
@@ -156,8 +155,8 @@ module _ {index store : List ℕ} {end : ℕ} {M : Memo} (x : Remembers index st
       rw (z.1, z.2, z.3)
       (remembers-line x (0 ∷ 0 ∷ n ∷ drop a from) (3 + n * 6) (omega arith) (omega (arith, k)) t 0 (ok tree) w s)
 
--- ---- `Full` only where the store has no room
-module _ {index store : List ℕ} {end t : ℕ} {r : Stored} {index' store' : List ℕ} (i : r ≡ Full) where
+-- ---- no end only where the store has no room
+module _ {index store : List ℕ} {end t : ℕ} {r : Option ℕ} {index' store' : List ℕ} (i : r ≡ None) where
   pub full-state : (state : ℕ) → AppendsState state index store end t r index' store' → min (length store) most_words < end + 3
   full-state state q = omega (arith, room-short (length store) end 0 (appends-full (room (length store) end 0) q i).0)
 

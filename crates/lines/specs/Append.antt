@@ -1,9 +1,7 @@
 -- A line that is appended to a store.
-use Rattle.std.specs.Prelude.{◌≡◌, Bool, ◌&&◌, List, [], ◌∷◌, ℕ, ◌+◌, ◌*◌, ◌≤◌, min, leb, length, drop, set}
+use Rattle.std.specs.Prelude.{◌≡◌, Bool, ◌&&◌, List, [], ◌∷◌, ℕ, ◌+◌, ◌*◌, ◌≤◌, min, leb, length, drop, set, Option, Some, None}
 use Rattle.std.proofs.Math.Seq.{paste}
 use Rattle.definition.specs.Base.{pick}
-use Rattle.lines.specs.declared.append.Stored.{Stored}
-use Rattle.lines.specs.declared.append.Stored.TheVariants.{Ends, Full}
 
 -- no store has more words, so that a place in it fits a word
 abbrev pub most_words : ℕ
@@ -24,16 +22,16 @@ pub record Headed (state count : ℕ) (index store : List ℕ) (end t : ℕ) (in
   pub writes : store' ≡ paste store end (0 ∷ state ∷ count ∷ []) 3
 
 -- where a test holds, the first n words of `src` are the line of t, and the lines end behind it; else nothing is written
-pub record Appends (test : Bool) (src : List ℕ) (n : ℕ) (index store : List ℕ) (end t : ℕ) (r : Stored) (index' store' : List ℕ) : Type 0 where
-  pub says : r ≡ pick test (Ends (end + n)) Full
+pub record Appends (test : Bool) (src : List ℕ) (n : ℕ) (index store : List ℕ) (end t : ℕ) (r : Option ℕ) (index' store' : List ℕ) : Type 0 where
+  pub says : r ≡ pick test (Some (end + n)) None
   pub marks : index' ≡ pick test (set index t (end + 2)) index
   pub writes : store' ≡ pick test (paste store end src n) store
 
 -- a line without nodes
-abbrev pub AppendsState : ℕ → List ℕ → List ℕ → ℕ → ℕ → Stored → List ℕ → List ℕ → Type 0
+abbrev pub AppendsState : ℕ → List ℕ → List ℕ → ℕ → ℕ → Option ℕ → List ℕ → List ℕ → Type 0
 AppendsState state index store end t r index' store' = Appends (room (length store) end 0) (0 ∷ state ∷ 0 ∷ []) 3 index store end t r index' store'
 
 -- a line with so many nodes from `a` on of another slice
-abbrev pub AppendsTree : List ℕ → ℕ → ℕ → List ℕ → List ℕ → ℕ → ℕ → Stored → List ℕ → List ℕ → Type 0
+abbrev pub AppendsTree : List ℕ → ℕ → ℕ → List ℕ → List ℕ → ℕ → ℕ → Option ℕ → List ℕ → List ℕ → Type 0
 AppendsTree from a nodes index store end t r index' store' =
     Appends (room (length store) end nodes && leb (a + nodes * 6) (length from)) (0 ∷ 0 ∷ nodes ∷ drop a from) (3 + nodes * 6) index store end t r index' store'

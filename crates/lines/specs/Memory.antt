@@ -1,5 +1,5 @@
 -- The memo of the definition (specs/Resolve.antt) that an index and a store stand for.
-use Rattle.std.specs.Prelude.{◌≡◌, ◌⊎◌, List, ℕ, ◌+◌, ◌*◌, ◌≤◌, ◌<◌, length, get_or}
+use Rattle.std.specs.Prelude.{◌≡◌, ◌⊎◌, List, ℕ, ◌+◌, ◌*◌, ◌≤◌, ◌<◌, length, get_or, Result, Ok, Err}
 use Rattle.std.proofs.Math.Seq.{paste}
 use Rattle.definition.specs.Tree as trees
 use Rattle.definition.specs.Ask.{ok, none, large, Outcome}
@@ -10,8 +10,8 @@ use Rattle.laws.specs.Values.{Small}
 use Rattle.tree.specs.Words.{Stand}
 use Rattle.lines.specs.declared.look.Remembered.{Remembered}
 use Rattle.lines.specs.declared.look.Remembered.TheVariants.{Unknown, None, TooLarge, Tree}
-use Rattle.lines.specs.declared.copy.Copied.{Copied}
-use Rattle.lines.specs.declared.copy.Copied.TheVariants as copied
+use Rattle.lines.specs.declared.copy.Uncopied.{Uncopied}
+use Rattle.lines.specs.declared.copy.Uncopied.TheVariants as copied
 
 -- a line of o begins at p, with any rank, and lies within the first `end` words
 pub record LineAt (store : List ℕ) (end p : ℕ) (o : Outcome) : Type 0 where
@@ -69,9 +69,9 @@ pub record CopyFull (old : List ℕ) (at : ℕ) (new : List ℕ) (l : Look) : Ty
   pub full : length old < at + trees.nodes tree * 6
   pub kept : new ≡ old
 
-abbrev pub CopyLooks : Copied → List ℕ → ℕ → List ℕ → Look → Type 0
-CopyLooks copied.Unknown old at new l = (l ≡ unknown) × (new ≡ old)
-CopyLooks copied.None old at new l = (l ≡ known none) × (new ≡ old)
-CopyLooks copied.TooLarge old at new l = (l ≡ known large) × (new ≡ old)
-CopyLooks (copied.Ends e) old at new l = CopyThere old at e new l
-CopyLooks copied.Full old at new l = CopyFull old at new l
+abbrev pub CopyLooks : Result ℕ Uncopied → List ℕ → ℕ → List ℕ → Look → Type 0
+CopyLooks (Err copied.Unknown) old at new l = (l ≡ unknown) × (new ≡ old)
+CopyLooks (Err copied.None) old at new l = (l ≡ known none) × (new ≡ old)
+CopyLooks (Err copied.TooLarge) old at new l = (l ≡ known large) × (new ≡ old)
+CopyLooks (Ok e) old at new l = CopyThere old at e new l
+CopyLooks (Err copied.Full) old at new l = CopyFull old at new l

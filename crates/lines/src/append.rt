@@ -1,50 +1,29 @@
 // Lines appended to a store.
-ghost use Rattle.std.specs.Prelude.{◌≡◌, [], ◌∷◌, ◌+◌, ◌*◌, ◌≤◌, min, leb, length, set};
+#![tactic(auto, using(crate::proofs::Appending::appends))]
+
+ghost use Rattle.std.specs.Prelude.{◌≡◌, [], ◌∷◌, ◌+◌, ◌*◌, ◌≤◌, leb, length, set};
 ghost use Rattle.std.proofs.Math.Seq.{paste};
-ghost use Rattle.lines.specs.Append.{most_words, room, HeadRoom, Headed, AppendsState, AppendsTree};
+ghost use Rattle.lines.specs.Append.{room, HeadRoom, Headed, AppendsState, AppendsTree};
 
 use crate::copy::copy_nodes;
 use crate::look::HEAD_WORDS;
-use tree::extent::Extent;
 use tree::words::{fits, nodes_fit};
 
 // No store has more words: a place in it fits a word of the index.
 pub const MOST_WORDS: usize = 268435456;
 
-// Where the lines end then. `Full` where the store has no room for the line; nothing is written then.
-#[derive(Clone, Copy)]
-pub enum Stored {
-    Ends(usize),
-    Full,
-}
-
-// The words of a store that are used.
-fn usable(length: usize) -> usize
-    ensures { result ≡ min length most_words }
-{
-    if length < MOST_WORDS {
-        length
-    } else {
-        MOST_WORDS
-    }
-}
-
 // Whether a line of so many nodes lies within a length.
 fn line_fits(length: usize, end: usize, nodes: usize) -> bool
     ensures { result ≡ leb (end + 3 + nodes * 6) length }
 {
-    if fits(length, end, HEAD_WORDS) {
-        nodes_fit(length, end + HEAD_WORDS, nodes)
-    } else {
-        false
-    }
+    fits(length, end, HEAD_WORDS) && nodes_fit(length, end + HEAD_WORDS, nodes)
 }
 
 // Whether a store has room for a line of so many nodes.
 fn has_room(length: usize, end: usize, nodes: usize) -> bool
     ensures { result ≡ room length end nodes }
 {
-    line_fits(usable(length), end, nodes)
+    line_fits(length.min(MOST_WORDS), end, nodes)
 }
 
 // A line's head: rank 0, state and count.
@@ -52,9 +31,7 @@ fn write_head(store: &mut [u32], at: usize, state: u32, count: u32)
     requires { at + 3 ≤ length store.old }
     ensures { store.new ≡ paste store.old at (0 ∷ state ∷ count ∷ []) 3 }
 {
-    store[at] = 0;
-    store[at + 1] = state;
-    store[at + 2] = count;
+    store[at..at + HEAD_WORDS].copy_from_slice(&[0, state, count]);
 }
 
 // A type's word of the index. A number past the index has none.
@@ -83,27 +60,32 @@ fn put_head(index: &mut [u32], store: &mut [u32], end: usize, t: u32, state: u32
     mark(index, t, end as u32 + 2);
 }
 
-// A line without nodes.
-fn remember_state(index: &mut [u32], store: &mut [u32], end: usize, t: u32, state: u32) -> Stored
+// A line without nodes, and where the lines end then. Nothing is written where the store has no room for it.
+fn remember_state(
+    index: &mut [u32],
+    store: &mut [u32],
+    end: usize,
+    t: u32,
+    state: u32,
+) -> Option<usize>
     ensures { AppendsState state index.old store.old end t result index.new store.new }
 {
-    if has_room(store.len(), end, 0) {
-        put_head(index, store, end, t, state, 0);
-        Stored::Ends(end + HEAD_WORDS)
-    } else {
-        Stored::Full
+    if !has_room(store.len(), end, 0) {
+        return None;
     }
+    put_head(index, store, end, t, state, 0);
+    Some(end + HEAD_WORDS)
 }
 
 // A type has none.
-pub fn remember_none(index: &mut [u32], store: &mut [u32], end: usize, t: u32) -> Stored
+pub fn remember_none(index: &mut [u32], store: &mut [u32], end: usize, t: u32) -> Option<usize>
     ensures { AppendsState 1 index.old store.old end t result index.new store.new }
 {
     remember_state(index, store, end, t, 1)
 }
 
 // A type's tree is too large.
-pub fn remember_large(index: &mut [u32], store: &mut [u32], end: usize, t: u32) -> Stored
+pub fn remember_large(index: &mut [u32], store: &mut [u32], end: usize, t: u32) -> Option<usize>
     ensures { AppendsState 2 index.old store.old end t result index.new store.new }
 {
     remember_state(index, store, end, t, 2)
@@ -118,18 +100,13 @@ pub fn remember_tree(
     from: &[u32],
     a: usize,
     nodes: usize,
-) -> Stored
+) -> Option<usize>
     ensures { AppendsTree from.now a nodes index.old store.old end t result index.new store.new }
 {
-    if has_room(store.len(), end, nodes) {
-        match copy_nodes(from, a, nodes, store, end + HEAD_WORDS) {
-            Extent::Ends(e) => {
-                put_head(index, store, end, t, 0, nodes as u32);
-                Stored::Ends(e)
-            }
-            Extent::Not => Stored::Full,
-        }
-    } else {
-        Stored::Full
+    if !has_room(store.len(), end, nodes) {
+        return None;
     }
+    let stop = copy_nodes(from, a, nodes, store, end + HEAD_WORDS)?;
+    put_head(index, store, end, t, 0, nodes as u32);
+    Some(stop)
 }

@@ -1,4 +1,6 @@
 // What is remembered of a type.
+#![tactic(auto, using(crate::proofs::Looking::reads))]
+
 ghost use Rattle.std.specs.Prelude.{◌≡◌, ◌+◌, ◌≤◌, length, get_or};
 ghost use Rattle.lines.specs.Look.{state_of, line_of, word_of, remembered_of};
 

@@ -25,9 +25,7 @@ use Rattle.laws.specs.Values.{Small}
 use Rattle.laws.specs.Whole.{Good}
 use Rattle.shapes.specs.Classes.{Classes, classes_of, classes-at}
 use Rattle.tree.specs.Words.{Stand}
-use Rattle.places.specs.declared.field.Found.{Found}
-use Rattle.places.specs.declared.field.Found.TheVariants as found
-use Rattle.places.specs.Found.{place_in}
+use Rattle.definition.specs.Ask.{result_of}
 use Rattle.places.specs.Inside.{PlaceIn, variable-found}
 use Rattle.memory_definition.specs.Cells.{place_or, cells, variable_cells}
 use Rattle.memory_laws.specs.InWords.{cells_from}
@@ -36,6 +34,7 @@ use Rattle.memory_laws.specs.Placed.{PlacedAll, placed-all}
 use Rattle.memory_layout.specs.Laid.{Whole}
 use Rattle.memory_layout.specs.Laid as layout
 use Rattle.memory.specs.Trees.{TreeIn, InWords, Laid}
+use Rattle.std.specs.Prelude.{None, Option, Some}
 
 -- ---- a variable without a place has no tree
 no_place : (f : List ℕ) (v : ℕ) → variable_place f v (word f variables v 3) ≡ none → variable_outcome f v ≡ none
@@ -75,8 +74,8 @@ module _ {f : List ℕ} {v : ℕ} {room : List ℕ} {many : ℕ} (h : TreeIn f v
   pub standing : {n : ℕ} → 12288 ≤ n → Whole room 0 n
   standing l = record { tree = h.tree; end = 6 * nodes h.tree; good = small.good; stands = h.stands; fits = omega (arith, small.few) }
 
-  module _ (a : Accepted f) (m : v < count f variables) {i : ℕ} (p : i ≡ word f variables v 3) {r : Found} (q : place_in r ≡ variable_place f v i) where
-    pub laid : {place : Place} → r ≡ found.Place place → {shapes : List ℕ} → layout.Laid f room place shapes → {n : ℕ} → length shapes ≡ n → 12288 ≤ n → Laid f v room shapes many
+  module _ (a : Accepted f) (m : v < count f variables) {i : ℕ} (p : i ≡ word f variables v 3) {r : Option Place} (q : result_of r ≡ variable_place f v i) where
+    pub laid : {place : Place} → r ≡ Some place → {shapes : List ℕ} → layout.Laid f room place shapes → {n : ℕ} → length shapes ≡ n → 12288 ≤ n → Laid f v room shapes many
     unfolding variable_cells
     laid {place} e {shapes} l k n = record { words = words a m (omega arith) is; cells = is }
       where
@@ -86,15 +85,15 @@ module _ {f : List ℕ} {v : ℕ} {room : List ℕ} {many : ℕ} (h : TreeIn f v
             let s : Stand room 0 (flatten t) (6 * nodes t) = subst (λ (u : Tree). Stand room 0 (flatten u) (6 * nodes u)) k h.stands in
             let g : Good t = subst Good k small.good in
             let c : many ≡ nodes t = h.counted ∙ ap nodes k in
-            let w : variable_place f v (word f variables v 3) ≡ ok place = ap (variable_place f v) (sym p) ∙ sym q ∙ ap place_in e in
+            let w : variable_place f v (word f variables v 3) ≡ ok place = ap (variable_place f v) (sym p) ∙ sym q ∙ ap result_of e in
             ap (cells_from room shapes 0) c ∙ l.says t (6 * nodes t) g s ∙ ap (λ (a : Result Place). cells f (place_or a) t) (sym w)
 
-    pub laid_none : r ≡ found.None → {shapes : List ℕ} → 12288 ≤ length shapes → Laid f v room shapes many
+    pub laid_none : r ≡ None → {shapes : List ℕ} → 12288 ≤ length shapes → Laid f v room shapes many
     laid_none e {shapes} n = record { words = words a m n is; cells = is }
       where
         is : (t : Tree) → variable_outcome f v ≡ ok t → cells_from room shapes 0 many ≡ variable_cells f v t
         is t o =
-            let w : variable_place f v (word f variables v 3) ≡ none = ap (variable_place f v) (sym p) ∙ sym q ∙ ap place_in e in
+            let w : variable_place f v (word f variables v 3) ≡ none = ap (variable_place f v) (sym p) ∙ sym q ∙ ap result_of e in
             let z : ◌≡◌ {A = Outcome} none (ok t) = sym (no_place f v w) ∙ o in
             let y : ◌≡◌ {A = ℕ} 0 1 = cc in
             absurd (omega arith)
@@ -104,7 +103,7 @@ pub classed : (f rest : List ℕ) {classes : List ℕ} → classes ≡ classes_o
 classed f rest e = subst (Classes f) (sym e) (classes-at f rest)
 
 module _ {f : List ℕ} (a : Accepted f) {v : ℕ} (l : v < count f variables) where
-  pub placed : {i : ℕ} → i ≡ word f variables v 3 → {r : Found} → place_in r ≡ variable_place f v i → {place : Place} → r ≡ found.Place place → PlaceIn f place
+  pub placed : {i : ℕ} → i ≡ word f variables v 3 → {r : Option Place} → result_of r ≡ variable_place f v i → {place : Place} → r ≡ Some place → PlaceIn f place
   placed {i} p q e =
       let w = variable-points f a v l in
       variable-found f a v i w.0 (omega (arith, w.1)) q e

@@ -7,11 +7,9 @@ use native.Mathlib.Omega.{arith}
 use lib.Dec.{leb}
 use lib.ListN.{length, take, drop, length-append}
 use borrow.Author.Rules.{rules}
-use borrow.Author.Tests.{ne_eqb, eq-eqb, le-leb, lt-leb}
+use borrow.Author.Tests.{ne_eqb, le-leb, lt-leb}
 use denote.Enum.Declared.{tag_of}
-use Rattle.definition.specs.declared.answers.TreeAnswer.{TreeAnswer}
-use Rattle.definition.specs.declared.answers.TreeAnswer.TheVariants as tree
-use Rattle.definition.specs.Ask.{none, large, Outcome}
+use Rattle.definition.specs.Ask.{none, large}
 use Rattle.definition.specs.Starting.{variable_outcome}
 use Rattle.definition.specs.Answers.{refuses, answered, over, tree_says}
 use Rattle.build.specs.declared.built.Built.{Built}
@@ -27,6 +25,12 @@ use Rattle.memory_laws.specs.InWords.{cells_from}
 use Rattle.memory_nodes.specs.All.{Words, Ready}
 use Rattle.memory.specs.Trees.{TreeIn, InWords, Laid, ReadsCells, ReadsMemory}
 use Rattle.memory.proofs.Writing.{there}
+use Rattle.std.specs.Prelude.{Option, Some, None, Ok, Err}
+use Rattle.std.specs.Prelude as std
+use Rattle.definition.specs.declared.answers.Refusal.{Refusal}
+use Rattle.definition.specs.declared.answers.Refusal.TheVariants as refusal
+use Rattle.definition.specs.Answers.{number_of}
+use Rattle.resolver.proofs.Answering.{numbered}
 
 -- ---- how many words
 nodes-long : (f : List ℕ) (at : ℕ) (cs : List Cell) (bs : List ℕ) → length (nodes_all f at cs bs) ≡ 6 * length cs
@@ -50,8 +54,8 @@ module _ (f room shapes : List ℕ) (n : ℕ) (bs : List ℕ) where
   six = omega (arith, nodes-long f 0 (cells_from room shapes 0 n) bs, cells-many room shapes 0 n)
 
   pub unread : {b : Bool} → b ≡ readable_all f (cells_from room shapes 0 n) bs → {nodes text : List ℕ} → b ≡ false
-      → ReadsCells f (cells_from room shapes 0 n) bs nodes text (tree.Refused 14) nodes text
-  unfolding tree_says read_answer read_over read_refused
+      → ReadsCells f (cells_from room shapes 0 n) bs nodes text (Err refusal.NotHeld) nodes text
+  unfolding number_of tree_says read_answer read_over read_refused
   unread h e = let k : readable_all f (cells_from room shapes 0 n) bs ≡ false = sym h ∙ e in record { says = rw k; nodes_are = rw k; text_is = rw k }
 
   pub ready : InWords f room shapes n → {b : Bool} → b ≡ readable_all f (cells_from room shapes 0 n) bs → b ≡ true → Ready f room shapes n bs
@@ -61,15 +65,15 @@ module _ (f room shapes : List ℕ) (n : ℕ) (bs : List ℕ) where
   nodes-fit m l = rw six (le-leb (n * 6) m l)
 
   module _ (i : Ready f room shapes n bs) {nodes : List ℕ} where
-    pub short-nodes : {text : List ℕ} → length nodes < n * 6 → ReadsCells f (cells_from room shapes 0 n) bs nodes text (tree.Refused 10) nodes text
-    unfolding tree_says read_answer read_over read_refused
+    pub short-nodes : {text : List ℕ} → length nodes < n * 6 → ReadsCells f (cells_from room shapes 0 n) bs nodes text (Err refusal.Short) nodes text
+    unfolding number_of tree_says read_answer read_over read_refused
     short-nodes l =
         let z : leb (length (nodes_all f 0 (cells_from room shapes 0 n) bs)) (length nodes) ≡ false = rw six (lt-leb (n * 6) (length nodes) l) in
         record { says = rw (i.read, z); nodes_are = rw (i.read, z); text_is = rw (i.read, z) }
 
     module _ (l : n * 6 ≤ length nodes) {m : ℕ} (s : m ≡ length (text_all f (cells_from room shapes 0 n) bs)) {text : List ℕ} where
-      pub short-text : length text < m → ReadsCells f (cells_from room shapes 0 n) bs nodes text (tree.Refused 10) nodes text
-      unfolding tree_says read_answer read_over read_refused
+      pub short-text : length text < m → ReadsCells f (cells_from room shapes 0 n) bs nodes text (Err refusal.Short) nodes text
+      unfolding number_of tree_says read_answer read_over read_refused
       short-text q =
           let z = nodes-fit (length nodes) l in
           let y : leb (length (text_all f (cells_from room shapes 0 n) bs)) (length text) ≡ false = rw (← s) (lt-leb m (length text) q) in
@@ -78,8 +82,8 @@ module _ (f room shapes : List ℕ) (n : ℕ) (bs : List ℕ) where
       pub all_read : m ≤ length text → {new_nodes new_text : List ℕ}
           → new_nodes ≡ nodes_all f 0 (cells_from room shapes 0 n) bs ++ drop (n * 6) nodes
           → new_text ≡ text_all f (cells_from room shapes 0 n) bs ++ drop (length (text_all f (cells_from room shapes 0 n) bs)) text
-          → ReadsCells f (cells_from room shapes 0 n) bs nodes text (tree.Tree n) new_nodes new_text
-      unfolding tree_says read_answer read_over read_refused over
+          → ReadsCells f (cells_from room shapes 0 n) bs nodes text (Ok (Some n)) new_nodes new_text
+      unfolding number_of tree_says read_answer read_over read_refused over
       all_read q p t =
           let z = nodes-fit (length nodes) l in
           let y : leb (length (text_all f (cells_from room shapes 0 n) bs)) (length text) ≡ true = rw (← s) (le-leb m (length text) q) in
@@ -98,7 +102,7 @@ pub ruleset held_reading = (rules, short-nodes, short-text, all_read, text-fits)
 
 -- ---- `read_tree`
 module _ {f : List ℕ} {v : ℕ} {room : List ℕ} {n : ℕ} (h : TreeIn f v room n) {shapes : List ℕ} (l : Laid f v room shapes n) where
-  pub tree-read : {bs nodes text : List ℕ} {r : TreeAnswer} {new_nodes new_text : List ℕ} → ReadsCells f (cells_from room shapes 0 n) bs nodes text r new_nodes new_text
+  pub tree-read : {bs nodes text : List ℕ} {r : std.Result (Option ℕ) Refusal} {new_nodes new_text : List ℕ} → ReadsCells f (cells_from room shapes 0 n) bs nodes text r new_nodes new_text
       → ReadsMemory f v (variable_outcome f v) bs nodes text r new_nodes new_text
   unfolding tree_read_of nodes_read_of text_read_of
   tree-read {bs} {nodes} {text} {r} {new_nodes} {new_text} w =
@@ -110,22 +114,22 @@ pub ruleset tree_reading = (rules, tree-read)
 
 -- ---- `read_built`
 module _ {f : List ℕ} {v : ℕ} {made : Built} {room : List ℕ} (h : Tells (variable_outcome f v) made room) {bs nodes text : List ℕ} where
-  pub none_read : made ≡ built.None → ReadsMemory f v (variable_outcome f v) bs nodes text tree.None nodes text
-  unfolding tree_says tree_read_of nodes_read_of text_read_of
+  pub none_read : made ≡ built.None → ReadsMemory f v (variable_outcome f v) bs nodes text (Ok None) nodes text
+  unfolding number_of tree_says tree_read_of nodes_read_of text_read_of
   none_read q =
       let e : variable_outcome f v ≡ none = tells_none (variable_outcome f v) (subst (λ (a : Built). Tells (variable_outcome f v) a room) q h) in
       record { says = rw e; nodes_are = rw e; text_is = rw e }
 
-  pub large-unread : made ≡ built.TooLarge → ReadsMemory f v (variable_outcome f v) bs nodes text (tree.Refused 8) nodes text
-  unfolding tree_says tree_read_of nodes_read_of text_read_of
+  pub large-unread : made ≡ built.TooLarge → ReadsMemory f v (variable_outcome f v) bs nodes text (Err refusal.Large) nodes text
+  unfolding number_of tree_says tree_read_of nodes_read_of text_read_of
   large-unread q =
       let e : variable_outcome f v ≡ large = tells-large (variable_outcome f v) (subst (λ (a : Built). Tells (variable_outcome f v) a room) q h) in
       record { says = rw e; nodes_are = rw e; text_is = rw e }
 
-  pub wanted-unread : tag_of the_type made ≡ 3 → ReadsMemory f v (variable_outcome f v) bs nodes text tree.None nodes text
+  pub wanted-unread : tag_of the_type made ≡ 3 → ReadsMemory f v (variable_outcome f v) bs nodes text (Ok None) nodes text
   wanted-unread q = go made q h
     where
-      go : (b : Built) → tag_of the_type b ≡ 3 → Tells (variable_outcome f v) b room → ReadsMemory f v (variable_outcome f v) bs nodes text tree.None nodes text
+      go : (b : Built) → tag_of the_type b ≡ 3 → Tells (variable_outcome f v) b room → ReadsMemory f v (variable_outcome f v) bs nodes text (Ok None) nodes text
       go (built.Ends e) q h = absurd (omega arith)
       go built.None q h = absurd (omega arith)
       go built.TooLarge q h = absurd (omega arith)
@@ -133,24 +137,25 @@ module _ {f : List ℕ} {v : ℕ} {made : Built} {room : List ℕ} (h : Tells (v
 
 pub ruleset built_reading = (rules, there, none_read, large-unread, wanted-unread)
 
--- ---- `read_memory`
-module _ {n refused : ℕ} (e : n ≡ refused) (f : List ℕ) (v : ℕ) (o : Outcome) (bs nodes text : List ℕ) where
-  pub answer-unread : (n ≡ 0 → ⊥) → tree_says (tree.Refused n) ≡ answered refused refuses (λ u. tree_read_of f v o bs (length nodes) (length text))
-  unfolding tree_says
-  answer-unread h = rw (← e) (rw (ne_eqb n 0 h))
+-- ---- `tree_answer`: the answer, the nodes and the characters, by the refusal
+module _ {refused : ℕ} (f : List ℕ) (v : ℕ) (bs nodes text : List ℕ) where
+  module _ (x : Refusal) (e : number_of x ≡ refused) where
+    pub answer-unread : {r : std.Result (Option ℕ) Refusal} → r ≡ Err x → tree_says r ≡ answered refused refuses (λ u. tree_read_of f v (variable_outcome f v) bs (length nodes) (length text))
+    unfolding tree_says
+    answer-unread q = rw (q, ← e) (rw (ne_eqb (number_of x) 0 (numbered x)))
 
-  pub nodes-unread : (n ≡ 0 → ⊥) → nodes ≡ answered refused (λ n. nodes) (λ u. nodes_read_of f v o bs nodes (length text))
-  nodes-unread h = rw (← e) (rw (ne_eqb n 0 h))
+    pub nodes-unread : nodes ≡ answered refused (λ n. nodes) (λ u. nodes_read_of f v (variable_outcome f v) bs nodes (length text))
+    nodes-unread = rw (← e) (rw (ne_eqb (number_of x) 0 (numbered x)))
 
-  pub text-unread : (n ≡ 0 → ⊥) → text ≡ answered refused (λ n. text) (λ u. text_read_of f v o bs (length nodes) text)
-  text-unread h = rw (← e) (rw (ne_eqb n 0 h))
+    pub text-unread : text ≡ answered refused (λ n. text) (λ u. text_read_of f v (variable_outcome f v) bs (length nodes) text)
+    text-unread = rw (← e) (rw (ne_eqb (number_of x) 0 (numbered x)))
 
-  module _ (z : n ≡ 0) {r : TreeAnswer} {new_nodes new_text : List ℕ} (a : ReadsMemory f v o bs nodes text r new_nodes new_text) where
-    pub answer-read : tree_says r ≡ answered refused refuses (λ u. tree_read_of f v o bs (length nodes) (length text))
-    answer-read = rw (← e) (rw (eq-eqb n 0 z) a.says)
+  module _ (z : refused ≡ 0) {s : List ℕ} (is : s ≡ f) {r : std.Result (Option ℕ) Refusal} {new_nodes new_text : List ℕ} (a : ReadsMemory s v (variable_outcome s v) bs nodes text r new_nodes new_text) where
+    pub answer-read : tree_says r ≡ answered refused refuses (λ u. tree_read_of f v (variable_outcome f v) bs (length nodes) (length text))
+    answer-read = rw (z, ← is) a.says
 
-    pub nodes-read : new_nodes ≡ answered refused (λ n. nodes) (λ u. nodes_read_of f v o bs nodes (length text))
-    nodes-read = rw (← e) (rw (eq-eqb n 0 z) a.nodes_are)
+    pub nodes-read : new_nodes ≡ answered refused (λ n. nodes) (λ u. nodes_read_of f v (variable_outcome f v) bs nodes (length text))
+    nodes-read = rw (z, ← is) a.nodes_are
 
-    pub text-read : new_text ≡ answered refused (λ n. text) (λ u. text_read_of f v o bs (length nodes) text)
-    text-read = rw (← e) (rw (eq-eqb n 0 z) a.text_is)
+    pub text-read : new_text ≡ answered refused (λ n. text) (λ u. text_read_of f v (variable_outcome f v) bs (length nodes) text)
+    text-read = rw (z, ← is) a.text_is

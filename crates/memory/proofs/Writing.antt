@@ -7,10 +7,10 @@ use native.Mathlib.Omega.{arith}
 use lib.Dec.{leb}
 use lib.ListN.{length, drop}
 use borrow.Author.Rules.{rules}
-use borrow.Author.Tests.{ne_eqb, eq-eqb, le-leb, lt-leb}
+use borrow.Author.Tests.{ne_eqb, le-leb, lt-leb}
 use denote.Enum.Declared.{tag_of}
 use Rattle.definition.specs.Tree.{nodes}
-use Rattle.definition.specs.Ask.{none, large, Outcome}
+use Rattle.definition.specs.Ask.{none, large}
 use Rattle.definition.specs.Starting.{variable_outcome}
 use Rattle.definition.specs.Answers.{refuses, answered, over}
 use Rattle.laws.specs.Puts.{Puts}
@@ -20,8 +20,6 @@ use Rattle.build.specs.declared.built.Built.TheVariants as built
 use Rattle.build.specs.contracts.built.Built.{the_type}
 use Rattle.driver.specs.Told.{Tells}
 use Rattle.resolver.proofs.Answering.{tells-ends, tells_none, tells-large, tells-wanted}
-use Rattle.memory_definition.specs.declared.answer.MemoryAnswer.{MemoryAnswer}
-use Rattle.memory_definition.specs.declared.answer.MemoryAnswer.TheVariants as memory
 use Rattle.memory_definition.specs.Cells.{Cell, variable_cells}
 use Rattle.memory_definition.specs.Forms.{file_characters}
 use Rattle.memory_definition.specs.Memory.{held_all, narrow_all, bytes_all, size_all}
@@ -29,16 +27,22 @@ use Rattle.memory_definition.specs.Answers.{memory_says, cell_bytes, cells_refus
 use Rattle.memory_laws.specs.InWords.{cells_from}
 use Rattle.memory_laws.specs.Lengths.{bytes-all-long}
 use Rattle.memory.specs.Trees.{TreeIn, Laid, Writable, WritesCells, WritesMemory}
+use Rattle.std.specs.Prelude.{Option, Some, None, Ok, Err}
+use Rattle.std.specs.Prelude as std
+use Rattle.definition.specs.declared.answers.Refusal.{Refusal}
+use Rattle.definition.specs.declared.answers.Refusal.TheVariants as refusal
+use Rattle.definition.specs.Answers.{number_of, tree_says}
+use Rattle.resolver.proofs.Answering.{numbered}
 
 -- ---- `write_cells`
 module _ (f : List ℕ) (cs : List Cell) {b : Bool} (h : b ≡ held_all f cs) where
-  pub unheld : {old : List ℕ} → b ≡ false → WritesCells f cs old (memory.Refused 14) old
-  unfolding memory_says cells_answer cells_out cells_refused
+  pub unheld : {old : List ℕ} → b ≡ false → WritesCells f cs old (Err refusal.NotHeld) old
+  unfolding number_of tree_says cells_answer cells_out cells_refused
   unheld e = let k : held_all f cs ≡ false = sym h ∙ e in record { says = rw k; is = rw k }
 
   module _ (e : b ≡ true) {d : Bool} (w : d ≡ narrow_all f (file_characters f) cs) where
-    pub too_wide : {old : List ℕ} → d ≡ false → WritesCells f cs old (memory.Refused 15) old
-    unfolding memory_says cells_answer cells_out cells_refused
+    pub too_wide : {old : List ℕ} → d ≡ false → WritesCells f cs old (Err refusal.Wide) old
+    unfolding number_of tree_says cells_answer cells_out cells_refused
     too_wide q = let k : held_all f cs ≡ true = sym h ∙ e in let l : narrow_all f (file_characters f) cs ≡ false = sym w ∙ q in record { says = rw (k, l); is = rw (k, l) }
 
     pub writable : d ≡ true → Writable f cs
@@ -52,15 +56,15 @@ module _ (f : List ℕ) (cs : List Cell) (h : Writable f cs) {n : ℕ} (s : n �
   unfolding cell_bytes
   many = bytes-all-long f (file_characters f) cs h.held ∙ sym s
 
-  pub too_short : {old : List ℕ} → length old < n → WritesCells f cs old (memory.Refused 10) old
-  unfolding memory_says cells_answer cells_out cells_refused
+  pub too_short : {old : List ℕ} → length old < n → WritesCells f cs old (Err refusal.Short) old
+  unfolding number_of tree_says cells_answer cells_out cells_refused
   too_short {old} l =
       let z : leb (length (cell_bytes f cs)) (length old) ≡ false = rw many (lt-leb n (length old) l) in
       record { says = rw (h.held, h.narrow, z); is = rw (h.held, h.narrow, z) }
 
   pub all-written : {old : List ℕ} → n ≤ length old → {e : ℕ} {new : List ℕ} → Puts (bytes_all f (file_characters f) cs) old 0 e new
-      → WritesCells f cs old (memory.Written n) new
-  unfolding memory_says cells_answer cells_out cells_refused over cell_bytes
+      → WritesCells f cs old (Ok (Some n)) new
+  unfolding number_of tree_says cells_answer cells_out cells_refused over cell_bytes
   all-written {old} l {e} {new} p =
       let z : leb (length (bytes_all f (file_characters f) cs)) (length old) ≡ true = rw many (le-leb n (length old) l) in
       let k : e ≡ length (bytes_all f (file_characters f) cs) = omega (arith, p.ends) in
@@ -75,7 +79,7 @@ pub ruleset held_writing = (rules, too_short, all-written, size_fits)
 
 -- ---- `write_tree`
 module _ {f : List ℕ} {v : ℕ} {room : List ℕ} {n : ℕ} (h : TreeIn f v room n) {shapes : List ℕ} (l : Laid f v room shapes n) where
-  pub tree-written : {old : List ℕ} {r : MemoryAnswer} {new : List ℕ} → WritesCells f (cells_from room shapes 0 n) old r new → WritesMemory f v (variable_outcome f v) old r new
+  pub tree-written : {old : List ℕ} {r : std.Result (Option ℕ) Refusal} {new : List ℕ} → WritesCells f (cells_from room shapes 0 n) old r new → WritesMemory f v (variable_outcome f v) old r new
   unfolding memory_of memory_in
   tree-written {old} {r} {new} w =
       let c : WritesCells f (variable_cells f v h.tree) old r new = subst (λ (cs : List Cell). WritesCells f cs old r new) (l.cells h.tree h.is) w in
@@ -91,22 +95,22 @@ there {f} {v} {e} {made} {room} h q =
     record { tree = y.tree; is = y.is; counted = omega arith; stands = rw (← k) y.stands }
 
 module _ {f : List ℕ} {v : ℕ} {made : Built} {room : List ℕ} (h : Tells (variable_outcome f v) made room) {old : List ℕ} where
-  pub none_written : made ≡ built.None → WritesMemory f v (variable_outcome f v) old memory.None old
-  unfolding memory_says memory_of memory_in
+  pub none_written : made ≡ built.None → WritesMemory f v (variable_outcome f v) old (Ok None) old
+  unfolding number_of tree_says memory_of memory_in
   none_written q =
       let e : variable_outcome f v ≡ none = tells_none (variable_outcome f v) (subst (λ (a : Built). Tells (variable_outcome f v) a room) q h) in
       record { says = rw e; is = rw e }
 
-  pub large-refused : made ≡ built.TooLarge → WritesMemory f v (variable_outcome f v) old (memory.Refused 8) old
-  unfolding memory_says memory_of memory_in
+  pub large-refused : made ≡ built.TooLarge → WritesMemory f v (variable_outcome f v) old (Err refusal.Large) old
+  unfolding number_of tree_says memory_of memory_in
   large-refused q =
       let e : variable_outcome f v ≡ large = tells-large (variable_outcome f v) (subst (λ (a : Built). Tells (variable_outcome f v) a room) q h) in
       record { says = rw e; is = rw e }
 
-  pub wanted-never : tag_of the_type made ≡ 3 → WritesMemory f v (variable_outcome f v) old memory.None old
+  pub wanted-never : tag_of the_type made ≡ 3 → WritesMemory f v (variable_outcome f v) old (Ok None) old
   wanted-never q = go made q h
     where
-      go : (b : Built) → tag_of the_type b ≡ 3 → Tells (variable_outcome f v) b room → WritesMemory f v (variable_outcome f v) old memory.None old
+      go : (b : Built) → tag_of the_type b ≡ 3 → Tells (variable_outcome f v) b room → WritesMemory f v (variable_outcome f v) old (Ok None) old
       go (built.Ends e) q h = absurd (omega arith)
       go built.None q h = absurd (omega arith)
       go built.TooLarge q h = absurd (omega arith)
@@ -114,18 +118,18 @@ module _ {f : List ℕ} {v : ℕ} {made : Built} {room : List ℕ} (h : Tells (v
 
 pub ruleset built_writing = (rules, there, none_written, large-refused, wanted-never)
 
--- ---- `write_memory`
-module _ {n refused : ℕ} (e : n ≡ refused) (f : List ℕ) (v : ℕ) (o : Outcome) (old : List ℕ) where
-  pub answer-refused : (n ≡ 0 → ⊥) → memory_says (memory.Refused n) ≡ answered refused refuses (λ u. memory_of f v o (length old))
-  unfolding memory_says
-  answer-refused h = rw (← e) (rw (ne_eqb n 0 h))
+-- ---- `memory_answer`: the answer and the bytes, by the refusal
+module _ {refused : ℕ} (f : List ℕ) (v : ℕ) (old : List ℕ) where
+  pub answer-refused : (x : Refusal) → number_of x ≡ refused → {r : std.Result (Option ℕ) Refusal} → r ≡ Err x → memory_says r ≡ answered refused refuses (λ u. memory_of f v (variable_outcome f v) (length old))
+  unfolding tree_says
+  answer-refused x e q = rw (q, ← e) (rw (ne_eqb (number_of x) 0 (numbered x)))
 
-  pub bytes-refused : (n ≡ 0 → ⊥) → old ≡ answered refused (λ n. old) (λ u. memory_in f v o old)
-  bytes-refused h = rw (← e) (rw (ne_eqb n 0 h))
+  pub bytes-refused : (x : Refusal) → number_of x ≡ refused → old ≡ answered refused (λ n. old) (λ u. memory_in f v (variable_outcome f v) old)
+  bytes-refused x e = rw (← e) (rw (ne_eqb (number_of x) 0 (numbered x)))
 
-  module _ (z : n ≡ 0) {r : MemoryAnswer} {new : List ℕ} (a : WritesMemory f v o old r new) where
-    pub answer-passed : memory_says r ≡ answered refused refuses (λ u. memory_of f v o (length old))
-    answer-passed = rw (← e) (rw (eq-eqb n 0 z) a.says)
+  module _ (z : refused ≡ 0) {s : List ℕ} (is : s ≡ f) {r : std.Result (Option ℕ) Refusal} {new : List ℕ} (a : WritesMemory s v (variable_outcome s v) old r new) where
+    pub answer-passed : memory_says r ≡ answered refused refuses (λ u. memory_of f v (variable_outcome f v) (length old))
+    answer-passed = rw (z, ← is) a.says
 
-    pub bytes-passed : new ≡ answered refused (λ n. old) (λ u. memory_in f v o old)
-    bytes-passed = rw (← e) (rw (eq-eqb n 0 z) a.is)
+    pub bytes-passed : new ≡ answered refused (λ n. old) (λ u. memory_in f v (variable_outcome f v) old)
+    bytes-passed = rw (z, ← is) a.is

@@ -1,12 +1,11 @@
 -- A variable's tree that stands in a room, written as bytes and read from bytes, as the definition answers it.
-use Rattle.std.specs.Prelude.{◌≡◌, true, List, ℕ, ◌*◌, ◌≤◌, length}
-use Rattle.definition.specs.declared.answers.TreeAnswer.{TreeAnswer}
+use Rattle.std.specs.Prelude.{◌≡◌, true, List, ℕ, ◌*◌, ◌≤◌, length, Option, Result}
+use Rattle.definition.specs.declared.answers.Refusal.{Refusal}
 use Rattle.definition.specs.Tree.{Tree, nodes, flatten}
 use Rattle.definition.specs.Ask.{ok, Outcome}
 use Rattle.definition.specs.Starting.{variable_outcome}
 use Rattle.definition.specs.Answers.{tree_says}
 use Rattle.tree.specs.Words.{Stand}
-use Rattle.memory_definition.specs.declared.answer.MemoryAnswer.{MemoryAnswer}
 use Rattle.memory_definition.specs.Cells.{Cell, variable_cells}
 use Rattle.memory_definition.specs.Forms.{file_characters}
 use Rattle.memory_definition.specs.Memory.{held_all, narrow_all, text_all, nodes_all}
@@ -38,21 +37,21 @@ pub record Writable (f : List ℕ) (cs : List Cell) : Type 0 where
   pub held : held_all f cs ≡ true
   pub narrow : narrow_all f (file_characters f) cs ≡ true
 
-pub record WritesCells (f : List ℕ) (cs : List Cell) (old : List ℕ) (r : MemoryAnswer) (new : List ℕ) : Type 0 where
+pub record WritesCells (f : List ℕ) (cs : List Cell) (old : List ℕ) (r : Result (Option ℕ) Refusal) (new : List ℕ) : Type 0 where
   pub says : memory_says r ≡ cells_answer f cs (length old)
   pub is : new ≡ cells_out f cs old
 
-pub record WritesMemory (f : List ℕ) (v : ℕ) (o : Outcome) (old : List ℕ) (r : MemoryAnswer) (new : List ℕ) : Type 0 where
+pub record WritesMemory (f : List ℕ) (v : ℕ) (o : Outcome) (old : List ℕ) (r : Result (Option ℕ) Refusal) (new : List ℕ) : Type 0 where
   pub says : memory_says r ≡ memory_of f v o (length old)
   pub is : new ≡ memory_in f v o old
 
 -- ---- reading: into words for nodes and words for characters
-pub record ReadsCells (f : List ℕ) (cs : List Cell) (bs nodes text : List ℕ) (r : TreeAnswer) (new_nodes new_text : List ℕ) : Type 0 where
+pub record ReadsCells (f : List ℕ) (cs : List Cell) (bs nodes text : List ℕ) (r : Result (Option ℕ) Refusal) (new_nodes new_text : List ℕ) : Type 0 where
   pub says : tree_says r ≡ read_answer f cs bs (length nodes) (length text)
   pub nodes_are : new_nodes ≡ read_over f cs bs (length nodes) (length text) (nodes_all f 0 cs bs) nodes
   pub text_is : new_text ≡ read_over f cs bs (length nodes) (length text) (text_all f cs bs) text
 
-pub record ReadsMemory (f : List ℕ) (v : ℕ) (o : Outcome) (bs nodes text : List ℕ) (r : TreeAnswer) (new_nodes new_text : List ℕ) : Type 0 where
+pub record ReadsMemory (f : List ℕ) (v : ℕ) (o : Outcome) (bs nodes text : List ℕ) (r : Result (Option ℕ) Refusal) (new_nodes new_text : List ℕ) : Type 0 where
   pub says : tree_says r ≡ tree_read_of f v o bs (length nodes) (length text)
   pub nodes_are : new_nodes ≡ nodes_read_of f v o bs nodes (length text)
   pub text_is : new_text ≡ text_read_of f v o bs (length nodes) text

@@ -4,7 +4,6 @@ ghost use Rattle.definition.specs.Layout as Layout;
 ghost use Rattle.definition.specs.Starting.{variable_outcome};
 ghost use Rattle.definition.specs.Answers.{cleared};
 ghost use Rattle.laws.specs.Accepted.{Accepted};
-ghost use Rattle.records.specs.Starts.{StartsOf};
 ghost use Rattle.driver.specs.Told.{Tells};
 ghost use Rattle.resolver.specs.Trees.{Passed};
 ghost use Rattle.memory_definition.specs.Answers.{memory_says, write_memory_answer, write_memory_out};
@@ -13,112 +12,118 @@ ghost use Rattle.memory.specs.Trees.{TreeIn, InWords, Writable, WritesCells, Wri
 
 use crate::place::lay_variable;
 use build::built::Built;
+use definition::answers::Refusal;
 use definition::layout::{NODE_WORDS, TREE_WORDS, VARIABLES};
 use lines::clear::clear;
 use memory_bytes::all::{held_all, narrow_all, size_all, write_all};
-use memory_definition::answer::MemoryAnswer;
-use places::declared::source_of;
-use resolver::refusal::refusal;
+use records::file::File;
+use records::source::Source;
+use resolver::refusal::admitted;
 use resolver::trees::variable_built;
 
 // Nodes that are held, without a character too wide: as many bytes as their forms have.
 fn write_held(
-    file: &[u32],
-    source: &[usize],
+    file: &Source<'_>,
     tree: &[u32],
     shapes: &[u32],
     nodes: usize,
     bytes: &mut [u8],
-) -> MemoryAnswer
-    requires { StartsOf file.now source.now × InWords file.now tree.now shapes.now nodes × Writable file.now (cells_from tree.now shapes.now 0 nodes) }
+) -> Result<Option<usize>, Refusal>
+    requires { InWords file.now tree.now shapes.now nodes × Writable file.now (cells_from tree.now shapes.now 0 nodes) }
     ensures { WritesCells file.now (cells_from tree.now shapes.now 0 nodes) bytes.old result bytes.new }
 {
-    let size = size_all(file, source, tree, shapes, nodes);
+    let size = size_all(file, tree, shapes, nodes);
     if bytes.len() < size {
-        return MemoryAnswer::Refused(10);
+        return Err(Refusal::Short);
     }
-    write_all(file, source, tree, shapes, nodes, bytes);
-    MemoryAnswer::Written(size)
+    write_all(file, tree, shapes, nodes, bytes);
+    Ok(Some(size))
 }
 
 // Refusal 14 before 15 before 10.
 fn write_cells(
-    file: &[u32],
-    source: &[usize],
+    file: &Source<'_>,
     tree: &[u32],
     shapes: &[u32],
     nodes: usize,
     bytes: &mut [u8],
-) -> MemoryAnswer
-    requires { StartsOf file.now source.now × InWords file.now tree.now shapes.now nodes }
+) -> Result<Option<usize>, Refusal>
+    requires { InWords file.now tree.now shapes.now nodes }
     ensures { WritesCells file.now (cells_from tree.now shapes.now 0 nodes) bytes.old result bytes.new }
 {
-    if held_all(file, source, tree, shapes, nodes) {
-        if narrow_all(file, source, tree, shapes, nodes) {
-            return write_held(file, source, tree, shapes, nodes, bytes);
+    if held_all(file, tree, shapes, nodes) {
+        if narrow_all(file, tree, shapes, nodes) {
+            return write_held(file, tree, shapes, nodes, bytes);
         }
-        return MemoryAnswer::Refused(15);
+        return Err(Refusal::Wide);
     }
-    MemoryAnswer::Refused(14)
+    Err(Refusal::NotHeld)
 }
 
 // The tree that stands at the front of the room.
-fn write_tree(file: &[u32], v: u32, room: &[u32], nodes: usize, bytes: &mut [u8]) -> MemoryAnswer
-    requires { Accepted file.now × (v < Layout.count file.now Layout.variables) × TreeIn file.now v room.now nodes }
-    ensures { WritesMemory file.now v (variable_outcome file.now v) bytes.old result bytes.new }
+fn write_tree(
+    file: &File<'_>,
+    v: u32,
+    room: &[u32],
+    nodes: usize,
+    bytes: &mut [u8],
+) -> Result<Option<usize>, Refusal>
+    requires { (v < Layout.count file.now.source Layout.variables) × TreeIn file.now.source v room.now nodes }
+    ensures { WritesMemory file.now.source v (variable_outcome file.now.source v) bytes.old result bytes.new }
 {
-    let source = source_of(file);
     let mut shapes = [0u32; TREE_WORDS];
-    lay_variable(file, &source, v, room, nodes, &mut shapes);
-    write_cells(file, &source, room, &shapes, nodes, bytes)
+    lay_variable(file, v, room, nodes, &mut shapes);
+    write_cells(&file.source, room, &shapes, nodes, bytes)
 }
 
-fn write_built(file: &[u32], v: u32, built: Built, room: &[u32], bytes: &mut [u8]) -> MemoryAnswer
-    requires { Accepted file.now × (v < Layout.count file.now Layout.variables) × Tells (variable_outcome file.now v) built room.now }
-    ensures { WritesMemory file.now v (variable_outcome file.now v) bytes.old result bytes.new }
+fn write_built(
+    file: &File<'_>,
+    v: u32,
+    built: Built,
+    room: &[u32],
+    bytes: &mut [u8],
+) -> Result<Option<usize>, Refusal>
+    requires { (v < Layout.count file.now.source Layout.variables) × Tells (variable_outcome file.now.source v) built room.now }
+    ensures { WritesMemory file.now.source v (variable_outcome file.now.source v) bytes.old result bytes.new }
 {
     match built {
         Built::Ends(e) => write_tree(file, v, room, e / NODE_WORDS, bytes),
-        Built::None => MemoryAnswer::None,
-        Built::TooLarge => MemoryAnswer::Refused(8),
-        Built::Wanted(_) => MemoryAnswer::None,
+        Built::None => Ok(None),
+        Built::TooLarge => Err(Refusal::Large),
+        Built::Wanted(_) => Ok(None),
     }
 }
 
+// The start memory of a variable, at the front of bytes. The work words are left as they come.
 fn memory_answer(
-    file: &[u32],
-    v: u32,
-    bytes: &mut [u8],
-    lines: &mut [u32],
-    room: &mut [u32],
-) -> MemoryAnswer
-    requires { Passed file.now Layout.variables v (length lines.old) (length room.old) }
-    ensures { WritesMemory file.now v (variable_outcome file.now v) bytes.old result bytes.new }
-{
-    let built = variable_built(file, v, lines, room);
-    write_built(file, v, built, &room[..], bytes)
-}
-
-// The start memory of a variable, at the front of bytes.
-pub fn write_memory(
-    file: &[u32],
+    words: &[u32],
     number: u32,
     bytes: &mut [u8],
     lines: &mut [u32],
     room: &mut [u32],
-) -> MemoryAnswer
-    ensures answer { memory_says result ≡ write_memory_answer file.now number (length bytes.old) (length lines.old) (length room.old) }
-    ensures bytes { bytes.new ≡ write_memory_out file.now number bytes.old (length lines.old) (length room.old) }
+) -> Result<Option<usize>, Refusal>
+    ensures answer { memory_says result ≡ write_memory_answer words.now number (length bytes.old) (length lines.old) (length room.old) }
+    ensures bytes { bytes.new ≡ write_memory_out words.now number bytes.old (length lines.old) (length room.old) }
+{
+    let file = admitted(words, VARIABLES, number, lines.len(), room.len())?;
+    let built = variable_built(&file, number, lines, room);
+    write_built(&file, number, built, &room[..], bytes)
+}
+
+// The start memory of a variable, at the front of bytes.
+pub fn write_memory(
+    words: &[u32],
+    number: u32,
+    bytes: &mut [u8],
+    lines: &mut [u32],
+    room: &mut [u32],
+) -> Result<Option<usize>, Refusal>
+    ensures answer { memory_says result ≡ write_memory_answer words.now number (length bytes.old) (length lines.old) (length room.old) }
+    ensures bytes { bytes.new ≡ write_memory_out words.now number bytes.old (length lines.old) (length room.old) }
     ensures lines { lines.new ≡ cleared lines.old }
     ensures room { room.new ≡ cleared room.old }
 {
-    let refused = refusal(file, VARIABLES, number, lines.len(), room.len());
-    if refused != 0 {
-        clear(lines);
-        clear(room);
-        return MemoryAnswer::Refused(refused);
-    }
-    let answer = memory_answer(file, number, bytes, lines, room);
+    let answer = memory_answer(words, number, bytes, lines, room);
     clear(lines);
     clear(room);
     answer

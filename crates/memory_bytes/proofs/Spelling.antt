@@ -1,13 +1,15 @@
 -- The characters of a string, one after another. Assumes nothing.
-use mathlib.Core.Path.{◌≡◌, ap, sym, ◌∙◌}
-use mathlib.Core.Bool.{true, false}
+use mathlib.Core.Path.{◌≡◌, refl, ap, ◌∙◌}
+use mathlib.Core.Bool.{Bool, ◌&&◌}
 use mathlib.Core.List.{List, [], ◌∷◌, ◌++◌}
-use Prim.Native.Nat.{ℕ, suc, ◌+◌, ◌-◌, ◌*◌, ◌^◌, ◌≤◌, ◌<◌}
+use Prim.Native.Nat.{ℕ, zero, suc, ◌+◌, ◌-◌, ◌*◌, ◌^◌, ◌≤◌, ◌<◌}
 use native.Mathlib.Omega.{arith}
 use native.Mathlib.Nat.{add-zero, mul-le-mul_left, mul-suc, mul-add}
 use lib.ListN.{length, replicate, length-append}
 use borrow.Author.Rules.{rules}
-use borrow.Author.Tests.{lt-ltb, le-ltb, ne_eqb}
+use borrow.Author.Tests.{ne_eqb}
+use lib.Dec.{ltb}
+use Rattle.std.specs.List.{list_all, range_with_len}
 use Rattle.definition.specs.Layout.{word, characters}
 use Rattle.laws.specs.Puts.{Puts, puts-long, puts_then}
 use Rattle.text.proofs.Putting.{Putting, putting-first, putting-more, putting-done}
@@ -98,29 +100,16 @@ module _ (most many : ℕ) {at : ℕ} {old : List ℕ} {b : ℕ} {l : List ℕ} 
     string-put o = rw (long, ← e, ← is) (puts_then (puts_then p s) o)
 
 -- ---- `every_below`
--- the first characters are passed: what is left decides
-pub record Passed (f : List ℕ) (limit first many k : ℕ) : Type 0 where
-  pub inside : k ≤ many
-  pub same : every_below limit (left f first many k) ≡ every_below limit (characters_from (file_characters f) first many)
+module _ (f : List ℕ) (limit first : ℕ) where
+  below-listed : (k a : ℕ) → list_all (λ n. ltb (word f characters (first + n) 0) limit) (range_with_len a k) ≡ every_below limit (characters_from (file_characters f) (first + a) k)
+  unfolding every_below characters_from file_characters
+  below-listed zero a = refl
+  below-listed (suc k) a =
+      let e : first + (a + 1) ≡ suc (first + a) = omega arith in
+      ap (λ b. ltb (word f characters (first + a) 0) limit && b) (below-listed k (a + 1) ∙ ap (λ j. every_below limit (characters_from (file_characters f) j k)) e)
 
-module _ (f : List ℕ) (limit first many : ℕ) where
-  pub none_passed : Passed f limit first many 0
-  none_passed = record { inside = omega arith; same = ap (every_below limit) (left-all f first many) }
-
-  module _ (k : ℕ) (x : Passed f limit first many k) where
-    pub all-passed : many ≤ k → true ≡ every_below limit (characters_from (file_characters f) first many)
-    unfolding every_below
-    all-passed h = sym (ap (every_below limit) (left-none f first many k h)) ∙ x.same
-
-    module _ (h : k < many) {w : ℕ} (is : w ≡ word f characters (first + k) 0) where
-      pub one-wide : limit ≤ w → false ≡ every_below limit (characters_from (file_characters f) first many)
-      unfolding every_below
-      one-wide l = rw (← x.same, left-more f first many k h, ← is, le-ltb w limit l)
-
-      pub one-passed : w < limit → Passed f limit first many (k + 1)
-      unfolding every_below
-      one-passed l =
-          record { inside = omega arith; same = let e : every_below limit (left f first many k) ≡ every_below limit (left f first many (k + 1)) = rw (left-more f first many k h, ← is, lt-ltb w limit l) in sym e ∙ x.same }
+  pub below-every : (many : ℕ) {r : Bool} → r ≡ list_all (λ n. ltb (word f characters (first + n) 0) limit) (range_with_len 0 many) → r ≡ every_below limit (characters_from (file_characters f) first many)
+  below-every many e = e ∙ below-listed many 0 ∙ ap (λ j. every_below limit (characters_from (file_characters f) j many)) (add-zero first)
 
 -- ---- `character_limit`
 pub narrow-limit : {width : ℕ} → width ≡ 0 → 256 ≡ 256 ^ character_bytes width
@@ -131,4 +120,4 @@ pub wide-limit : {width : ℕ} → (width ≡ 0 → ⊥) → 65536 ≡ 256 ^ cha
 unfolding character_bytes
 wide-limit {width} n = rw (ne_eqb width 0 n)
 
-pub ruleset spelling = (rules, text-first, text-room, text-less, text-done, second-room, lengths-put, string-room, fill-room, string-put, none_passed, all-passed, one-wide, one-passed, narrow-limit, wide-limit)
+pub ruleset spelling = (rules, text-first, text-room, text-less, text-done, second-room, lengths-put, string-room, fill-room, string-put, below-every, narrow-limit, wide-limit)

@@ -1,2 +1,3 @@
 -- numbers below 0 as bytes
 pub mod Flipped
+pub mod Numbered

@@ -1,7 +1,8 @@
 // One node as bytes.
+#![tactic(auto, using(crate::proofs::Standing::standing))]
+
 ghost use Rattle.std.specs.Prelude.{◌≡◌, true, ◌+◌, ◌/◌, ◌≤◌, length};
 ghost use Rattle.laws.specs.Puts.{Puts};
-ghost use Rattle.records.specs.Starts.{StartsOf};
 ghost use Rattle.memory_definition.specs.Numbers.{little_endian, complement};
 ghost use Rattle.memory_definition.specs.Forms as Forms;
 ghost use Rattle.memory_definition.specs.Forms.{held, file_characters};
@@ -18,6 +19,7 @@ use memory_forms::held::constant_on;
 use memory_forms::members::member_place;
 use ranges::range;
 use reals::narrow::narrow;
+use records::source::Source;
 use tree::node::Node;
 
 // A number of so many bits, in two's complement.
@@ -33,18 +35,11 @@ fn put_integer(bytes: &mut [u8], at: usize, bits: u32, c: Constant) -> usize
     put_number(bytes, at, size, count)
 }
 
-pub fn put_cell(
-    bytes: &mut [u8],
-    at: usize,
-    file: &[u32],
-    source: &[usize],
-    shape: Shape,
-    node: Node,
-) -> usize
-    requires { StartsOf file.now source.now × (held file.now (cell_of shape node) ≡ true) × (at + size file.now (cell_of shape node) ≤ length bytes.old) }
+pub fn put_cell(bytes: &mut [u8], at: usize, file: &Source<'_>, shape: Shape, node: Node) -> usize
+    requires { (held file.now (cell_of shape node) ≡ true) × (at + size file.now (cell_of shape node) ≤ length bytes.old) }
     ensures { Puts (Forms.bytes file.now (file_characters file.now) (cell_of shape node)) bytes.old at result bytes.new }
 {
-    match form_of(file, source, shape, node.kind) {
+    match form_of(file, shape, node.kind) {
         Form::Head => at,
         Form::Null => put_zeros(bytes, at, 4),
         Form::Bool => put_number(bytes, at, node.low as u64, 1),
@@ -57,10 +52,10 @@ pub fn put_cell(
         Form::Real => put_number(bytes, at, narrow(range::size(constant_on(node))) as u64, 4),
         Form::LongReal => put_number(bytes, at, range::size(constant_on(node)), 8),
         Form::String { most, width } => {
-            put_string(bytes, at, file, source, most, width, node.low, node.high)
+            put_string(bytes, at, file, most, width, node.low, node.high)
         }
         Form::Enumeration { first, count } => {
-            let place = member_place(file, source, node.low, first, count);
+            let place = member_place(file, node.low, first, count);
             put_number(bytes, at, place as u64, 2)
         }
         Form::Nothing => at,

@@ -1,6 +1,7 @@
 // Whether each character of a node fits its bytes (all others are refusal 15).
+#![tactic(auto, using(crate::proofs::Spelling::spelling))]
+
 ghost use Rattle.std.specs.Prelude.{◌≡◌, ◌^◌};
-ghost use Rattle.records.specs.Starts.{StartsOf};
 ghost use Rattle.memory_definition.specs.Numbers.{character_bytes};
 ghost use Rattle.memory_definition.specs.Forms as Forms;
 ghost use Rattle.memory_definition.specs.Forms.{file_characters, characters_from, every_below};
@@ -10,21 +11,13 @@ use definition::layout::CHARACTERS;
 use definition::records::Shape;
 use memory_definition::form::Form;
 use memory_forms::form::form_of;
-use records::words::run_word;
+use records::source::Source;
 use tree::node::Node;
 
-fn every_below(file: &[u32], source: &[usize], limit: u32, first: u32, many: u32) -> bool
-    requires { StartsOf file.now source.now }
+fn every_below(file: &Source<'_>, limit: u32, first: u32, many: u32) -> bool
     ensures { result ≡ every_below limit (characters_from (file_characters file.now) first many) }
 {
-    let mut k = 0;
-    while k < many {
-        if run_word(file, source, CHARACTERS, first, k, 0) >= limit {
-            return false;
-        }
-        k += 1;
-    }
-    true
+    (0..many).all(|k| file.run_word(CHARACTERS, first, k, 0) < limit)
 }
 
 // How many characters there are of a width.
@@ -37,12 +30,12 @@ fn character_limit(width: u32) -> u32
     65536
 }
 
-pub fn narrow(file: &[u32], source: &[usize], shape: Shape, node: Node) -> bool
-    requires { StartsOf file.now source.now }
+#[tactic(auto, using(crate::proofs::Standing::narrowing))]
+pub fn narrow(file: &Source<'_>, shape: Shape, node: Node) -> bool
     ensures { result ≡ Forms.narrow file.now (file_characters file.now) (cell_of shape node) }
 {
-    let Form::String { most: _, width } = form_of(file, source, shape, node.kind) else {
+    let Form::String { most: _, width } = form_of(file, shape, node.kind) else {
         return true;
     };
-    every_below(file, source, character_limit(width), node.low, node.high)
+    every_below(file, character_limit(width), node.low, node.high)
 }

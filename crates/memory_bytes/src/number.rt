@@ -1,4 +1,6 @@
 // Numbers as bytes, the low byte first.
+#![tactic(auto, using(crate::proofs::Numbering::numbering))]
+
 ghost use Rattle.std.specs.Prelude.{◌+◌, ◌≤◌, length, replicate};
 ghost use Rattle.laws.specs.Puts.{Puts};
 ghost use Rattle.memory_definition.specs.Numbers.{little_endian};
@@ -12,11 +14,9 @@ pub fn put_number(bytes: &mut [u8], at: usize, n: u64, count: usize) -> usize
 {
     let mut end = at;
     let mut rest = n;
-    let mut left = count;
-    while left > 0 {
+    for _ in 0..count {
         end = put_byte(bytes, end, (rest % 256) as u8);
         rest /= 256;
-        left -= 1;
     }
     end
 }
@@ -28,11 +28,9 @@ pub fn put_flipped(bytes: &mut [u8], at: usize, n: u64, count: usize) -> usize
 {
     let mut end = at;
     let mut rest = n;
-    let mut left = count;
-    while left > 0 {
+    for _ in 0..count {
         end = put_byte(bytes, end, 255 - (rest % 256) as u8);
         rest /= 256;
-        left -= 1;
     }
     end
 }
@@ -41,11 +39,7 @@ pub fn put_zeros(bytes: &mut [u8], at: usize, count: usize) -> usize
     requires { at + count ≤ length bytes.old }
     ensures { Puts (replicate count 0) bytes.old at result bytes.new }
 {
-    let mut end = at;
-    let mut left = count;
-    while left > 0 {
-        end = put_byte(bytes, end, 0);
-        left -= 1;
-    }
+    let end = at + count;
+    bytes[at..end].fill(0);
     end
 }

@@ -1,22 +1,20 @@
 -- What the functions of start memory answer, and what they leave in the words and bytes that they are lent (document 02, Q-1: "without a tree none or 8; in writing 14 for
 -- a node its shape can't hold, then 15 for a character too wide; in reading 14 for bytes that no tree of these parts is written as; all before 10"). Before these come the
 -- refusals of a variable's tree, which wants the same work words.
-use Rattle.std.specs.Prelude.{◌&&◌, List, [], ◌∷◌, ℕ, ◌*◌, ◌^◌, eqb, leb, length}
+use Rattle.std.specs.Prelude.{◌&&◌, List, [], ◌∷◌, ℕ, ◌*◌, ◌^◌, eqb, leb, length, Option, Result}
 use Rattle.definition.specs.Base.{pick}
 use Rattle.definition.specs.Accept.{need}
 use Rattle.definition.specs.Ask.{ok, none, large, Outcome}
 use Rattle.definition.specs.Starting.{variable_outcome}
-use Rattle.definition.specs.Answers.{Says, refuses, says, packed, answered, variable_refused, over}
-use Rattle.memory_definition.specs.declared.answer.MemoryAnswer.{MemoryAnswer}
-use Rattle.memory_definition.specs.declared.answer.MemoryAnswer.TheVariants as memory
+use Rattle.definition.specs.Answers.{Says, refuses, says, tree_says, packed, answered, variable_refused, over}
+use Rattle.definition.specs.declared.answers.Refusal.{Refusal}
 use Rattle.memory_definition.specs.Cells.{Cell, variable_cells}
 use Rattle.memory_definition.specs.Forms.{file_characters}
 use Rattle.memory_definition.specs.Memory.{held_all, narrow_all, bytes_all, readable_all, text_all, nodes_all}
 
-unfoldable pub memory_says : MemoryAnswer → Says
-memory_says (memory.Written bytes) = says 0 (bytes ∷ [])
-memory_says memory.None = says 1 []
-memory_says (memory.Refused n) = refuses n
+-- a start memory's number of bytes
+abbrev pub memory_says : Result (Option ℕ) Refusal → Says
+memory_says = tree_says
 
 -- the same as a number, for C: the refusal's number times 2 ^ 32, or the number of bytes; none is 4294967295, since a structure without fields has 0 bytes
 unfoldable pub memory_code : Says → ℕ
@@ -94,5 +92,5 @@ read_memory_text f v bs nodes text lines room = answered (variable_refused f v l
 
 -- what this file computes with
 unfoldable pub opened : Unit {0}
-unfolding memory_says memory_code cell_bytes cells_refused cells_answer cells_out memory_of memory_in write_memory_answer write_memory_out read_refused read_answer read_over tree_read_of nodes_read_of text_read_of read_memory_answer read_memory_nodes read_memory_text
+unfolding memory_code cell_bytes cells_refused cells_answer cells_out memory_of memory_in write_memory_answer write_memory_out read_refused read_answer read_over tree_read_of nodes_read_of text_read_of read_memory_answer read_memory_nodes read_memory_text
 opened = tt

@@ -20,14 +20,14 @@ use Rattle.definition.specs.Layout.{word, count, settings}
 use Rattle.definition.specs.Layout as layout
 use Rattle.definition.specs.Records.{shape_at}
 use Rattle.definition.specs.Scalar.{max_length, long}
-use Rattle.scalar.specs.declared.string.MaxLength.{MaxLength}
-use Rattle.scalar.specs.declared.string.MaxLength.TheVariants as most
-use Rattle.scalar.specs.String.{length_of, max_length_by, max-length-is}
+use Rattle.scalar.specs.String.{max_length_by, max-length-is}
 use Rattle.memory_definition.specs.contracts.form.Form as forms
 use Rattle.memory_definition.specs.declared.form.Form.{Form}
 use Rattle.memory_definition.specs.declared.form.Form.TheVariants as form
 use Rattle.memory_definition.specs.Numbers.{character_bytes}
 use Rattle.memory_definition.specs.Forms.{as_integer, as_text, stored_by, stored_up_to, stored, is_head, form_at, size_as}
+use Rattle.definition.specs.Ask.{result_of}
+use Rattle.std.specs.Prelude.{None, Option, Some}
 
 -- ---- `as_integer`, `as_text`, `temporal`, `real`
 module _ {base : Form} where
@@ -53,11 +53,11 @@ no_number (form.String most width) h = refl
 no_number (form.Enumeration first many) h = refl
 no_number form.Nothing h = refl
 
-module _ {length : MaxLength} (width : ℕ) where
-  pub a-text : {n : ℕ} → length ≡ most.Most n → form.String n width ≡ as_text (length_of length) width
+module _ {length : Option ℕ} (width : ℕ) where
+  pub a-text : {n : ℕ} → length ≡ Some n → form.String n width ≡ as_text (result_of length) width
   a-text e = rw e
 
-  pub no_text : length ≡ most.None → form.Nothing ≡ as_text (length_of length) width
+  pub no_text : length ≡ None → form.Nothing ≡ as_text (result_of length) width
   no_text e = rw e
 
 module _ {bits : ℕ} where
@@ -119,11 +119,11 @@ module _ (f : List ℕ) where
     of_enumeration e = rw e
 
     module _ {r : Form} where
-      pub of_string : {length width : ℕ} → s ≡ shape.String length width → {setting : ℕ} → setting ≡ word f settings 0 0 → (m : MaxLength) → length_of m ≡ max_length_by setting length
-          → r ≡ as_text (length_of m) width → r ≡ stored_by f none s
+      pub of_string : {length width : ℕ} → s ≡ shape.String length width → {setting : ℕ} → setting ≡ word f settings 0 0 → (m : Option ℕ) → result_of m ≡ max_length_by setting length
+          → r ≡ as_text (result_of m) width → r ≡ stored_by f none s
       unfolding stored_by
       of_string {length} {width} e {setting} w m l h =
-          let q : length_of m ≡ max_length f length = l ∙ rw w (max-length-is f length) in
+          let q : result_of m ≡ max_length f length = l ∙ rw w (max-length-is f length) in
           rw (e, ← q) h
 
       module _ {bits : ℕ} where

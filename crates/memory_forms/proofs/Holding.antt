@@ -24,12 +24,8 @@ use Rattle.definition.specs.Accept.{constant_plain}
 use Rattle.definition.specs.Ask.{Result, ok, none}
 use Rattle.definition.specs.Places.{first_named}
 use Rattle.definition.specs.Scalar.{size_of, max_length, on_result, cut_string, uncut_word, as_string, converted}
-use Rattle.scalar.specs.declared.node.Leaf.{Leaf}
-use Rattle.scalar.specs.declared.node.Leaf.TheVariants as leaf
-use Rattle.scalar.specs.Node.{result_of}
-use Rattle.scalar.specs.declared.string.MaxLength.{MaxLength}
-use Rattle.scalar.specs.declared.string.MaxLength.TheVariants as most
-use Rattle.scalar.specs.String.{length_of, max_length_by, string_of, max-length-is}
+use Rattle.definition.specs.Ask.{result_of}
+use Rattle.scalar.specs.String.{max_length_by, string_of, max-length-is}
 use Rattle.scalar.specs.Convert.{Counts}
 use Rattle.tree.specs.declared.node.Node.{Node}
 use Rattle.places.proofs.Steps.{Comes, goes_on, stops, ends}
@@ -42,6 +38,7 @@ use Rattle.memory_laws.specs.Fits.{cut_to}
 use Rattle.memory_laws.specs.Placed.{Placed, placed-bits, placed-base}
 use Rattle.memory_forms.specs.Cell.{node_of, cell_of}
 use Rattle.memory_forms.proofs.Forming.{unranged}
+use Rattle.std.specs.Prelude.{None, Option, Some}
 
 -- ---- `member_place`: the first places are passed, and the name is not theirs
 pub record Passed (f : List ℕ) (name first many place : ℕ) : Type 0 where
@@ -113,15 +110,15 @@ module _ (f : List ℕ) (length width : ℕ) (c : Constant) {setting : ℕ} (is 
   unfolding unchanged converted as_string cut_string
   by_length {r} h = let e : max_length f length ≡ r = sym (max-length-is f length) ∙ rw (← is) (sym h) in rw e
 
-  module _ {m : MaxLength} (h : length_of m ≡ max_length_by setting length) where
-    pub no_length : m ≡ most.None → false ≡ unchanged f (shape.String length width) c
+  module _ {m : Option ℕ} (h : result_of m ≡ max_length_by setting length) where
+    pub no_length : m ≡ None → false ≡ unchanged f (shape.String length width) c
     no_length e = sym (by_length {r = none} (rw e at h) ∙ go (eqb c.kind 8))
       where
         go : (b : Bool) → is_same c (pick b none none) ≡ false
         go true = refl
         go false = refl
 
-    module _ {n : ℕ} (e : m ≡ most.Most n) where
+    module _ {n : ℕ} (e : m ≡ Some n) where
       pub too_long : n < c.high → false ≡ unchanged f (shape.String length width) c
       too_long l = sym (by_length {r = ok n} (rw e at h) ∙ go (eqb c.kind 8))
         where
@@ -148,16 +145,27 @@ stringless = 0 ∷ 1 ∷ 2 ∷ 3 ∷ 4 ∷ 5 ∷ 6 ∷ 7 ∷ 8 ∷ 10 ∷ 11 ∷
 pub nothing-counted : (s : Shape) (c : Constant) → OneOf stringless (tag_of shape_types.the_type s) → Counts s c
 nothing-counted s c h = record { of_string = λ length width e k. absurd (miss stringless 9 tt (rw e at h)) }
 
-module _ (f : List ℕ) (s : Shape) (c : Constant) {l : Leaf} (is : result_of l ≡ converted f s c) where
-  pub same-value : {d : Constant} → l ≡ leaf.Value d → {b : Bool} → b ≡ same_constant c d → b ≡ unchanged f s c
+module _ (f : List ℕ) (s : Shape) (c : Constant) {l : Option Constant} (is : result_of l ≡ converted f s c) where
+  pub same-value : {d : Constant} → l ≡ Some d → {b : Bool} → b ≡ same_constant c d → b ≡ unchanged f s c
   unfolding unchanged
   same-value e h = rw (← is, e) h
 
-  pub no_value_lem : l ≡ leaf.None → false ≡ unchanged f s c
+  pub no_value_lem : l ≡ None → false ≡ unchanged f s c
   unfolding unchanged
   no_value_lem e = rw (← is, e)
 
 -- ---- `fits_up_to`
+-- of n steps j are made
+module _ {A B : Type 0} {g : ℕ → A → B} {n j : ℕ} {x : A} {b : B} (i : Comes g (n - j) x b) where
+  pub goes_further : {y : A} → j < n → ((k : ℕ) → g (suc k) x ≡ g k y) → Comes g (n - (j + 1)) y b
+  goes_further l h = let e : n - j - 1 ≡ n - (j + 1) = omega arith in rw e at (goes_on i (omega arith) h)
+
+  pub stops_at : {r : B} → j < n → ((k : ℕ) → r ≡ g (suc k) x) → r ≡ b
+  stops_at l h = stops i (omega arith) h
+
+  pub ends_at : {r : B} → n ≤ j → r ≡ g 0 x → r ≡ b
+  ends_at l h = ends i (omega arith) h
+
 pub base-placed : {f : List ℕ} {s : Shape} → Placed f s → {base low high : ℕ} → s ≡ shape.Subrange base low high → {t : Shape} → t ≡ shape_at f base → Placed f t
 base-placed p q g = rw g (placed-base p q)
 
@@ -182,8 +190,8 @@ no-base (shape.Reference target) g h = refl
 no-base shape.Unknown g h = refl
 
 module _ (f : List ℕ) (s : Shape) (c : Constant) where
-  pub fits-starts : (most : ℕ) → Comes (λ k x. fits_up_to f k x c) most s (fits_up_to f most s c)
-  fits-starts most = record { same = refl }
+  pub fits-starts : (most : ℕ) → Comes (λ k x. fits_up_to f k x c) (most - 0) s (fits_up_to f most s c)
+  fits-starts most = let all : most - 0 ≡ most = omega arith in record { same = rw all }
 
   pub fits-ends : false ≡ fits_up_to f 0 s c
   unfolding fits_up_to
@@ -348,4 +356,4 @@ module _ (f : List ℕ) (s : Shape) (n : Node) {x : Form} (is : x ≡ form_at f 
 
 pub ruleset naming = (rules, opened, none_passed, none_named, named_here, one-passed)
 
-pub ruleset holding = (rules, opened, not-true, not-false, goes_on, stops, ends, string-word, other_word, constant-made, no_length, too_long, whole-string, as-string, nothing-counted, same-value, no_value_lem, placed-bits, base-placed, fits-starts, fits-ends, changed, fits_whole, fits-base, not_plain, plain_fits, no-real, a-real, no-array, an-array, no-head, structure-head, array_head, block-head, no_member, a-member, held-null, held-nothing, held-as-head, held-as-real, held-as-member, held-as-constant)
+pub ruleset holding = (rules, opened, not-true, not-false, goes_further, stops_at, ends_at, string-word, other_word, constant-made, no_length, too_long, whole-string, as-string, nothing-counted, same-value, no_value_lem, placed-bits, base-placed, fits-starts, fits-ends, changed, fits_whole, fits-base, not_plain, plain_fits, no-real, a-real, no-array, an-array, no-head, structure-head, array_head, block-head, no_member, a-member, held-null, held-nothing, held-as-head, held-as-real, held-as-member, held-as-constant)

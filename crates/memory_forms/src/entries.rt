@@ -1,11 +1,12 @@
 // How many entries an array lists, counted up to one past what a word holds.
+#![tactic(auto, using(crate::proofs::Counting::counting))]
+
 ghost use Rattle.std.specs.Prelude.{◌≡◌, ◌*◌, ◌^◌, ◌≤◌, min};
 ghost use Rattle.definition.specs.Accept.{elements_of};
-ghost use Rattle.records.specs.Starts.{StartsOf};
 ghost use Rattle.memory_definition.specs.Cells.{entries_up_to};
 
 use definition::records::Shape;
-use records::view::shape_at;
+use records::source::Source;
 use shapes::arrays::dimension_span;
 
 // One more than a word holds: past it, it does not matter how many there are.
@@ -28,19 +29,17 @@ fn times(a: u64, b: u64) -> u64
     MANY
 }
 
-fn elements(file: &[u32], source: &[usize], first: u32, many: u32) -> u64
-    requires { StartsOf file.now source.now }
+fn elements(file: &Source<'_>, first: u32, many: u32) -> u64
     ensures { result ≡ min (elements_of file.now first many) (2 ^ 32) }
 {
     let mut product: u64 = 1;
     for j in 0..many {
-        product = times(product, dimension_span(file, source, first, j));
+        product = times(product, dimension_span(file, first, j));
     }
     product
 }
 
-pub fn entries_up_to(file: &[u32], source: &[usize], left: usize, shape: Shape) -> u64
-    requires { StartsOf file.now source.now }
+pub fn entries_up_to(file: &Source<'_>, left: usize, shape: Shape) -> u64
     ensures { result ≡ min (entries_up_to file.now left shape) (2 ^ 32) }
 {
     if left == 0 {
@@ -54,6 +53,6 @@ pub fn entries_up_to(file: &[u32], source: &[usize], left: usize, shape: Shape) 
     else {
         return 1;
     };
-    let inner = entries_up_to(file, source, left - 1, shape_at(file, source, element));
-    times(elements(file, source, first, count), inner)
+    let inner = entries_up_to(file, left - 1, file.shape(element));
+    times(elements(file, first, count), inner)
 }

@@ -1,9 +1,10 @@
 // Which form a node has, and how many bytes.
+#![tactic(auto, using(crate::proofs::Forming::forming))]
+
 ghost use Rattle.std.specs.Prelude.{◌≡◌, ◌*◌, ◌^◌, ◌≤◌, eqb};
 ghost use Rattle.definition.specs.Base.{pick};
 ghost use Rattle.definition.specs.Scalar as scalar;
-ghost use Rattle.records.specs.Starts.{StartsOf};
-ghost use Rattle.scalar.specs.String.{length_of};
+ghost use Rattle.definition.specs.Ask.{result_of};
 ghost use Rattle.memory_definition.specs.declared.form.Form.TheVariants as form;
 ghost use Rattle.memory_definition.specs.Numbers.{character_bytes};
 ghost use Rattle.memory_definition.specs.Forms.{as_integer, as_text, stored_by, stored_up_to, is_head, form_at, size_as};
@@ -11,9 +12,8 @@ ghost use Rattle.memory_definition.specs.Forms.{as_integer, as_text, stored_by, 
 use definition::layout::{SETTINGS, SHAPES};
 use definition::records::Shape;
 use memory_definition::form::Form;
-use records::view::shape_at;
-use records::words::{count, word};
-use scalar::string::{MaxLength, max_length};
+use records::source::Source;
+use scalar::string::max_length;
 
 // A subrange stands as its base does, where that is an integer.
 fn as_integer(base: Form) -> Form
@@ -39,12 +39,12 @@ fn as_integer(base: Form) -> Form
     Form::Nothing
 }
 
-fn as_text(length: MaxLength, width: u32) -> Form
-    ensures { result ≡ as_text (length_of length) width }
+fn as_text(length: Option<u32>, width: u32) -> Form
+    ensures { result ≡ as_text (result_of length) width }
 {
     match length {
-        MaxLength::Most(most) => Form::String { most, width },
-        MaxLength::None => Form::Nothing,
+        Some(most) => Form::String { most, width },
+        None => Form::Nothing,
     }
 }
 
@@ -84,8 +84,7 @@ fn real(bits: u32) -> Form
 }
 
 // By a shape that is no subrange.
-fn own_form(file: &[u32], source: &[usize], shape: Shape) -> Form
-    requires { StartsOf file.now source.now }
+fn own_form(file: &Source<'_>, shape: Shape) -> Form
     ensures { result ≡ stored_by file.now (λ base. form.Nothing) shape }
 {
     match shape {
@@ -99,10 +98,7 @@ fn own_form(file: &[u32], source: &[usize], shape: Shape) -> Form
         Shape::TimeOfDay { bits } => temporal(false, bits, 5),
         Shape::DateAndTime { bits } => temporal(false, bits, 7),
         Shape::String { length, width } => {
-            as_text(
-                max_length(length, word(file, source, SETTINGS, 0, 0)),
-                width,
-            )
+            as_text(max_length(length, file.word(SETTINGS, 0, 0)), width)
         }
         Shape::Enumeration {
             first,
@@ -116,8 +112,7 @@ fn own_form(file: &[u32], source: &[usize], shape: Shape) -> Form
 }
 
 // By any shape: a base has a lower shape.
-fn stored_up_to(file: &[u32], source: &[usize], left: usize, shape: Shape) -> Form
-    requires { StartsOf file.now source.now }
+fn stored_up_to(file: &Source<'_>, left: usize, shape: Shape) -> Form
     ensures { result ≡ stored_up_to file.now left shape }
 {
     if left == 0 {
@@ -129,12 +124,13 @@ fn stored_up_to(file: &[u32], source: &[usize], left: usize, shape: Shape) -> Fo
         greatest: _,
     } = shape
     else {
-        return own_form(file, source, shape);
+        return own_form(file, shape);
     };
-    let below = shape_at(file, source, base);
-    as_integer(stored_up_to(file, source, left - 1, below))
+    let below = file.shape(base);
+    as_integer(stored_up_to(file, left - 1, below))
 }
 
+#[tactic(auto, using(crate::proofs::Forming::forming), unfolding(memory_definition::specs::Forms::is_head))]
 fn is_head(kind: u32) -> bool
     ensures { result ≡ is_head kind }
 {
@@ -142,8 +138,7 @@ fn is_head(kind: u32) -> bool
 }
 
 // How a node of a kind stands in a place of a shape.
-pub fn form_of(file: &[u32], source: &[usize], shape: Shape, kind: u32) -> Form
-    requires { StartsOf file.now source.now }
+pub fn form_of(file: &Source<'_>, shape: Shape, kind: u32) -> Form
     ensures { result ≡ form_at file.now shape kind }
 {
     if is_head(kind) {
@@ -152,8 +147,8 @@ pub fn form_of(file: &[u32], source: &[usize], shape: Shape, kind: u32) -> Form
     if kind == 10 {
         return Form::Null;
     }
-    let left = count(file, source, SHAPES) as usize + 1;
-    stored_up_to(file, source, left, shape)
+    let left = file.count(SHAPES) as usize + 1;
+    stored_up_to(file, left, shape)
 }
 
 pub fn character_size(width: u32) -> usize

@@ -1,11 +1,12 @@
 // Whether the shape of a node's place holds it (all others are refusal 14).
+#![tactic(auto, using(crate::proofs::Holding::holding))]
+
 ghost use Rattle.std.specs.Prelude.{◌≡◌, not, ◌&&◌, eqb};
 ghost use Rattle.definition.specs.declared.records.Shape.TheVariants as shape;
 ghost use Rattle.definition.specs.Layout.{members};
 ghost use Rattle.definition.specs.Places.{first_named};
 ghost use Rattle.definition.specs.Scalar.{uncut_word};
 ghost use Rattle.laws.specs.Bits.{Bits};
-ghost use Rattle.records.specs.Starts.{StartsOf};
 ghost use Rattle.memory_definition.specs.declared.form.Form.TheVariants as form;
 ghost use Rattle.memory_definition.specs.Cells as Cells;
 ghost use Rattle.memory_definition.specs.Forms as Forms;
@@ -23,10 +24,8 @@ use places::values::converted;
 use plain::words::constant_plain;
 use ranges::range::size;
 use reals::is_nan;
-use records::view::shape_at;
-use records::words::{count, word};
-use scalar::node::Leaf;
-use scalar::string::{MaxLength, max_length, string_constant};
+use records::source::Source;
+use scalar::string::{max_length, string_constant};
 use tree::node::Node;
 
 // A node's last word by its kind: of a string's only the width, without the characters cut.
@@ -52,6 +51,7 @@ pub fn constant_on(node: Node) -> Constant
     }
 }
 
+#[tactic(auto, using(crate::proofs::Holding::holding), unfolding(memory_definition::specs::Forms::same_constant))]
 fn same(c: Constant, d: Constant) -> bool
     ensures { result ≡ same_constant c d }
 {
@@ -63,12 +63,11 @@ fn same(c: Constant, d: Constant) -> bool
 }
 
 // A string whose place holds all its characters and has its width. `converted` counts the characters cut in a word, which a node's may not fit.
-fn unchanged_string(file: &[u32], source: &[usize], length: u32, width: u32, c: Constant) -> bool
-    requires { StartsOf file.now source.now }
+fn unchanged_string(file: &Source<'_>, length: u32, width: u32, c: Constant) -> bool
     ensures { result ≡ Forms.unchanged file.now (shape.String length width) c }
 {
-    let setting = word(file, source, SETTINGS, 0, 0);
-    let MaxLength::Most(most) = max_length(length, setting) else {
+    let setting = file.word(SETTINGS, 0, 0);
+    let Some(most) = max_length(length, setting) else {
         return false;
     };
     if most < c.high {
@@ -78,28 +77,27 @@ fn unchanged_string(file: &[u32], source: &[usize], length: u32, width: u32, c: 
 }
 
 // Conversion to the shape returns it unchanged.
-fn unchanged(file: &[u32], source: &[usize], shape: Shape, c: Constant) -> bool
-    requires { StartsOf file.now source.now × Bits shape }
+fn unchanged(file: &Source<'_>, shape: Shape, c: Constant) -> bool
+    requires { Bits shape }
     ensures { result ≡ Forms.unchanged file.now shape c }
 {
     match shape {
-        Shape::String { length, width } => unchanged_string(file, source, length, width, c),
-        _ => match converted(file, source, shape, c) {
-            Leaf::Value(d) => same(c, d),
+        Shape::String { length, width } => unchanged_string(file, length, width, c),
+        _ => match converted(file, shape, c) {
+            Some(d) => same(c, d),
             _ => false,
         },
     }
 }
 
 // It fits the shape, and if that is a subrange, its base.
-fn fits_up_to(file: &[u32], source: &[usize], most: usize, shape: Shape, c: Constant) -> bool
-    requires { StartsOf file.now source.now × Placed file.now shape }
+fn fits_up_to(file: &Source<'_>, most: usize, shape: Shape, c: Constant) -> bool
+    requires { Placed file.now shape }
     ensures { result ≡ fits_up_to file.now most shape c }
 {
-    let mut left = most;
     let mut place = shape;
-    while left > 0 {
-        if !unchanged(file, source, place, c) {
+    for _ in 0..most {
+        if !unchanged(file, place, c) {
             return false;
         }
         let Shape::Subrange {
@@ -110,77 +108,73 @@ fn fits_up_to(file: &[u32], source: &[usize], most: usize, shape: Shape, c: Cons
         else {
             return true;
         };
-        place = shape_at(file, source, base);
-        left -= 1;
+        place = file.shape(base);
     }
     false
 }
 
-fn held_constant(file: &[u32], source: &[usize], shape: Shape, node: Node) -> bool
-    requires { StartsOf file.now source.now × Placed file.now shape }
+fn held_constant(file: &Source<'_>, shape: Shape, node: Node) -> bool
+    requires { Placed file.now shape }
     ensures { result ≡ held_constant file.now (cell_of shape node) }
 {
     let c = constant_on(node);
     if !constant_plain(c.kind, c.sign, c.low, c.high, c.width) {
         return false;
     }
-    let most = count(file, source, SHAPES) as usize + 1;
-    fits_up_to(file, source, most, shape, c)
+    let most = file.count(SHAPES) as usize + 1;
+    fits_up_to(file, most, shape, c)
 }
 
-fn held_real(file: &[u32], source: &[usize], shape: Shape, node: Node) -> bool
-    requires { StartsOf file.now source.now × Placed file.now shape }
+fn held_real(file: &Source<'_>, shape: Shape, node: Node) -> bool
+    requires { Placed file.now shape }
     ensures { result ≡ Forms.held_as file.now form.Real (cell_of shape node) }
 {
     if is_nan(size(constant_on(node))) {
         return false;
     }
-    held_constant(file, source, shape, node)
+    held_constant(file, shape, node)
 }
 
-fn held_array(file: &[u32], source: &[usize], shape: Shape, node: Node) -> bool
-    requires { StartsOf file.now source.now }
+fn held_array(file: &Source<'_>, shape: Shape, node: Node) -> bool
     ensures { result ≡ eqb node.kind 13 && eqb node.low (Cells.entries_of file.now shape) }
 {
     if node.kind != 13 {
         return false;
     }
-    let left = count(file, source, SHAPES) as usize;
-    node.low as u64 == entries_up_to(file, source, left, shape)
+    let left = file.count(SHAPES) as usize;
+    node.low as u64 == entries_up_to(file, left, shape)
 }
 
-fn held_head(file: &[u32], source: &[usize], shape: Shape, node: Node) -> bool
-    requires { StartsOf file.now source.now }
+fn held_head(file: &Source<'_>, shape: Shape, node: Node) -> bool
     ensures { result ≡ held_head file.now (cell_of shape node) }
 {
     match shape {
         Shape::Structure { first: _, count } => (node.kind == 14) & (node.low == count),
-        Shape::Array { .. } => held_array(file, source, shape, node),
+        Shape::Array { .. } => held_array(file, shape, node),
         Shape::FunctionBlock { .. } => node.kind == 14,
         _ => false,
     }
 }
 
-fn held_member(file: &[u32], source: &[usize], first: u32, many: u32, node: Node) -> bool
-    requires { StartsOf file.now source.now }
+fn held_member(file: &Source<'_>, first: u32, many: u32, node: Node) -> bool
     ensures { result ≡ eqb node.kind 9 && not (eqb (first_named file.now members node.low first many) 0) }
 {
     if node.kind != 9 {
         return false;
     }
-    member_place(file, source, node.low, first, many) < many
+    member_place(file, node.low, first, many) < many
 }
 
-pub fn held(file: &[u32], source: &[usize], shape: Shape, node: Node) -> bool
-    requires { StartsOf file.now source.now × Placed file.now shape }
+pub fn held(file: &Source<'_>, shape: Shape, node: Node) -> bool
+    requires { Placed file.now shape }
     ensures { result ≡ Forms.held file.now (cell_of shape node) }
 {
-    match form_of(file, source, shape, node.kind) {
-        Form::Head => held_head(file, source, shape, node),
+    match form_of(file, shape, node.kind) {
+        Form::Head => held_head(file, shape, node),
         Form::Null => node.kind == 10,
-        Form::Real => held_real(file, source, shape, node),
-        Form::Enumeration { first, count } => held_member(file, source, first, count, node),
+        Form::Real => held_real(file, shape, node),
+        Form::Enumeration { first, count } => held_member(file, first, count, node),
         Form::Nothing => false,
-        _ => held_constant(file, source, shape, node),
+        _ => held_constant(file, shape, node),
     }
 }

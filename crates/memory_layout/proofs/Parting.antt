@@ -17,14 +17,13 @@ use Rattle.definition.specs.Shapes.{on_shape}
 use Rattle.definition.specs.Places.{bare, leaf_place, field_place}
 use Rattle.laws.specs.Cases.{never}
 use Rattle.laws.specs.Accepted.{Accepted}
-use Rattle.places.specs.declared.field.Found.{Found}
-use Rattle.places.specs.declared.field.Found.TheVariants as found
-use Rattle.places.specs.Found.{place_in}
+use Rattle.definition.specs.Ask.{result_of}
 use Rattle.places.specs.Inside.{PlaceIn, leaf-in, field_found}
 use Rattle.places.specs.Shapes.{on-kind}
 use Rattle.places.proofs.Others.{NoArray, no-array}
 use Rattle.memory_definition.specs.Cells.{nowhere, place_or, part_place}
 use Rattle.memory_layout.specs.Parts.{Located, entries_place}
+use Rattle.std.specs.Prelude.{None, Option, Some}
 
 -- ---- places of the file, and nowhere
 pub nowhere-is : {r : Place} → r ≡ bare shape.Unknown → r ≡ nowhere
@@ -49,14 +48,14 @@ module _ {f : List ℕ} {place : Place} (l : Located f place) where
   block_inside e = l.inside (rw e refl)
 
 -- ---- `named_part`
-module _ (f : List ℕ) (place : Place) (name : ℕ) {r : Found} (h : place_in r ≡ field_place f place name) where
-  pub field-there : {p : Place} → r ≡ found.Place p → p ≡ place_or (field_place f place name)
+module _ (f : List ℕ) (place : Place) (name : ℕ) {r : Option Place} (h : result_of r ≡ field_place f place name) where
+  pub field-there : {p : Place} → r ≡ Some p → p ≡ place_or (field_place f place name)
   field-there e = rw (← h, e)
 
-  pub field-located : Accepted f → PlaceIn f place → {p : Place} → r ≡ found.Place p → Located f p
+  pub field-located : Accepted f → PlaceIn f place → {p : Place} → r ≡ Some p → Located f p
   field-located a i e = place-located (field_found f a place name i h e)
 
-  pub field-lost : r ≡ found.None → {p : Place} → p ≡ nowhere → p ≡ place_or (field_place f place name)
+  pub field-lost : r ≡ None → {p : Place} → p ≡ nowhere → p ≡ place_or (field_place f place name)
   field-lost e q = rw (← h, e) q
 
 -- ---- `entries_place`

@@ -5,16 +5,13 @@ use Rattle.definition.specs.declared.records.Place.{Place}
 use Rattle.definition.specs.Shapes.{on_shape, on_array}
 use Rattle.definition.specs.Places.{leaf_place}
 use Rattle.laws.specs.Accepted.{Accepted}
-use Rattle.records.specs.Starts.{StartsOf, DeclaredIn}
 use Rattle.shapes.specs.Classes.{Classes}
 use Rattle.places.specs.Inside.{PlaceIn}
 
 -- an accepted file with the tables that go with it
-pub record Given (f source classes : List ℕ) : Type 0 where
-  pub starts : StartsOf f source
+pub record Given (f classes : List ℕ) : Type 0 where
   pub accepted : Accepted f
   pub classed : Classes f classes
-  pub declared : DeclaredIn f source
 
 -- a shape that has parts
 abbrev pub has_parts : Shape → Bool

@@ -1,4 +1,6 @@
 // The places of a node's parts (`part_place` of the definition of start memory).
+#![tactic(auto, using(crate::proofs::Parting::laws))]
+
 ghost use Rattle.std.specs.Prelude.{◌≡◌, ◌<◌, length, get_or};
 ghost use Rattle.definition.specs.Places.{field_place};
 ghost use Rattle.places.specs.Inside.{PlaceIn};
@@ -8,9 +10,9 @@ ghost use Rattle.memory_layout.specs.Parts.{Given, Located, entries_place};
 
 use definition::layout::SHAPE_FIELDS;
 use definition::records::{Place, Shape};
-use places::field::{Found, field_place};
+use places::field::field_place;
 use places::place::{bare, leaf_place};
-use records::words::run_word;
+use records::file::File;
 
 // Where a part stands that its shape does not have.
 fn nowhere() -> Place
@@ -20,22 +22,22 @@ fn nowhere() -> Place
 }
 
 // A field of a structure or a function block, by its name.
-fn named_part(file: &[u32], source: &[usize], classes: &[u32], place: Place, name: u32) -> Place
-    requires { Given file.now source.now classes.now × PlaceIn file.now place }
-    ensures is { result ≡ place_or (field_place file.now place name) }
-    ensures located { Located file.now result }
+fn named_part(file: &File<'_>, classes: &[u32], place: Place, name: u32) -> Place
+    requires { Given file.now.source classes.now × PlaceIn file.now.source place }
+    ensures is { result ≡ place_or (field_place file.now.source place name) }
+    ensures located { Located file.now.source result }
 {
-    let found = field_place(file, source, classes, place, name);
+    let found = field_place(file, classes, place, name);
     match found {
-        Found::Place(part) => part,
-        Found::None => nowhere(),
+        Some(part) => part,
+        None => nowhere(),
     }
 }
 
 // The place of all entries of an array, worked out once; that of anything else is not looked at.
-pub fn entries_place(file: &[u32], source: &[usize], classes: &[u32], place: Place) -> Place
-    requires { Given file.now source.now classes.now × Located file.now place }
-    ensures { result ≡ entries_place file.now place }
+pub fn entries_place(file: &File<'_>, classes: &[u32], place: Place) -> Place
+    requires { Given file.now.source classes.now × Located file.now.source place }
+    ensures { result ≡ entries_place file.now.source place }
 {
     let shape = place.shape;
     match shape {
@@ -43,30 +45,29 @@ pub fn entries_place(file: &[u32], source: &[usize], classes: &[u32], place: Pla
             element: _,
             first: _,
             count: _,
-        } => leaf_place(file, source, classes, place),
+        } => leaf_place(file, classes, place),
         _ => place,
     }
 }
 
 // The place of part k, which has a name.
 fn part_place(
-    file: &[u32],
-    source: &[usize],
+    file: &File<'_>,
     classes: &[u32],
     place: Place,
     entry: Place,
     k: u32,
     name: u32,
 ) -> Place
-    requires { Given file.now source.now classes.now × Located file.now place × (entry ≡ entries_place file.now place) }
-    ensures is { result ≡ part_place file.now place k name }
-    ensures located { Located file.now result }
+    requires { Given file.now.source classes.now × Located file.now.source place × (entry ≡ entries_place file.now.source place) }
+    ensures is { result ≡ part_place file.now.source place k name }
+    ensures located { Located file.now.source result }
 {
     let shape = place.shape;
     match shape {
         Shape::Structure { first, count: _ } => {
-            if run_word(file, source, SHAPE_FIELDS, first, k, 0) == name {
-                return named_part(file, source, classes, place, name);
+            if file.source.run_word(SHAPE_FIELDS, first, k, 0) == name {
+                return named_part(file, classes, place, name);
             }
             nowhere()
         }
@@ -75,15 +76,14 @@ fn part_place(
             first: _,
             count: _,
         } => entry,
-        Shape::FunctionBlock { name: _ } => named_part(file, source, classes, place, name),
+        Shape::FunctionBlock { name: _ } => named_part(file, classes, place, name),
         _ => nowhere(),
     }
 }
 
 // The place of part k, which begins with its name at a place of the tree's words.
 pub fn place_at(
-    file: &[u32],
-    source: &[usize],
+    file: &File<'_>,
     classes: &[u32],
     place: Place,
     entry: Place,
@@ -91,9 +91,9 @@ pub fn place_at(
     tree: &[u32],
     at: usize,
 ) -> Place
-    requires { Given file.now source.now classes.now × Located file.now place × (entry ≡ entries_place file.now place) × (at < length tree.now) }
-    ensures is { result ≡ part_place file.now place k (get_or tree.now at 0) }
-    ensures located { Located file.now result }
+    requires { Given file.now.source classes.now × Located file.now.source place × (entry ≡ entries_place file.now.source place) × (at < length tree.now) }
+    ensures is { result ≡ part_place file.now.source place k (get_or tree.now at 0) }
+    ensures located { Located file.now.source result }
 {
-    part_place(file, source, classes, place, entry, k, tree[at])
+    part_place(file, classes, place, entry, k, tree[at])
 }

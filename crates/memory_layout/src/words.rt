@@ -1,4 +1,6 @@
 // A shape in words, as its record in a declaration file has them.
+#![tactic(auto, using(crate::proofs::Putting::joined))]
+
 ghost use Rattle.std.specs.Prelude.{◌≡◌, ◌+◌, ◌≤◌, length};
 ghost use Rattle.definition.specs.Records.{shape_of};
 ghost use Rattle.memory_layout.specs.Words.{Put, PutNode};
@@ -23,6 +25,7 @@ fn five(kind: u32, a: u32, b: u32, c: u32, d: u32) -> Words
 }
 
 // A shape of an unknown kind has the first kind that no record has.
+#[tactic(auto, using(crate::proofs::Putting::joined), unfolding(definition::specs::Records::shape_of))]
 fn shape_words(shape: Shape) -> Words
     ensures { shape_of result.kind result.a result.b result.c result.d ≡ shape }
 {

@@ -41,25 +41,26 @@ pub record Along (f tree shapes bytes : List ℕ) (at left from : ℕ) (b : Bool
   pub known : Bytes bytes
 
 module _ {f tree shapes : List ℕ} {nodes : ℕ} (bytes : List ℕ) (k : (i : ℕ) → Fits w8 (get_or bytes i 0)) where
-  start : {b : Bool} → Words f tree shapes nodes → readable_all f (cells_from tree shapes 0 nodes) bytes ≡ b → Along f tree shapes bytes 0 nodes 0 b
+  start : {b : Bool} → Words f tree shapes nodes → readable_all f (cells_from tree shapes 0 nodes) bytes ≡ b → Along f tree shapes bytes 0 (nodes - 0) 0 b
   start w e =
+      let all : nodes - 0 ≡ nodes = omega arith in
       record {
-        ahead = record { placed = w.0; nodes = omega (arith, w.1); shapes_long = omega (arith, w.2) };
-        same = e;
+        ahead = record { placed = rw all w.0; nodes = omega (arith, w.1); shapes_long = omega (arith, w.2) };
+        same = rw all e;
         inside = omega arith;
         known = bytes-each bytes (λ i l. (k i).fits);
       }
 
-  pub along-first : Words f tree shapes nodes → Along f tree shapes bytes 0 nodes 0 (readable_all f (cells_from tree shapes 0 nodes) bytes)
+  pub along-first : Words f tree shapes nodes → Along f tree shapes bytes 0 (nodes - 0) 0 (readable_all f (cells_from tree shapes 0 nodes) bytes)
   along-first w = start w refl
 
-  pub along-ready : Ready f tree shapes nodes bytes → Along f tree shapes bytes 0 nodes 0 true
+  pub along-ready : Ready f tree shapes nodes bytes → Along f tree shapes bytes 0 (nodes - 0) 0 true
   along-ready r = start r.words r.read
 
 -- ---- one node more
-pub cells-next : (tree shapes : List ℕ) (at left : ℕ) → 0 < left → cells_from tree shapes at left ≡ cell_in tree shapes at ∷ cells_from tree shapes (at + 6) (left - 1)
+pub cells-next : (tree shapes : List ℕ) (at nodes j : ℕ) → j < nodes → cells_from tree shapes at (nodes - j) ≡ cell_in tree shapes at ∷ cells_from tree shapes (at + 6) (nodes - (j + 1))
 unfolding cells_from
-cells-next tree shapes at left h = let e : left ≡ suc (left - 1) = omega arith in ap (cells_from tree shapes at) e
+cells-next tree shapes at nodes j h = let e : nodes - j ≡ suc (nodes - (j + 1)) = omega arith in ap (cells_from tree shapes at) e
 
 pub cells-none : (tree shapes : List ℕ) (at left : ℕ) → left ≤ 0 → cells_from tree shapes at left ≡ []
 unfolding cells_from
@@ -102,8 +103,8 @@ fills-few f (form.String most width) low bs e =
 fills-few f (form.Enumeration first count) low bs e = tt
 fills-few f form.Nothing low bs e = tt
 
-module _ {f tree shapes bytes : List ℕ} {at left from : ℕ} {b : Bool} (x : Along f tree shapes bytes at left from b) where
-  module _ (h : 0 < left) where
+module _ {f tree shapes bytes : List ℕ} {at nodes j from : ℕ} {b : Bool} (x : Along f tree shapes bytes at (nodes - j) from b) where
+  module _ (h : j < nodes) where
     pub along-tree : at + 6 ≤ length tree
     along-tree = omega (arith, x.ahead.nodes)
 
@@ -111,10 +112,10 @@ module _ {f tree shapes bytes : List ℕ} {at left from : ℕ} {b : Bool} (x : A
     along-shapes = omega (arith, x.ahead.shapes_long)
 
     along-placed : Placed f (shape_in shapes at)
-    along-placed = placed_first x.ahead.placed h
+    along-placed = placed_first x.ahead.placed (omega arith)
 
-    ahead-next : Ahead f tree shapes (at + 6) (left - 1)
-    ahead-next = record { placed = placed-next x.ahead.placed h; nodes = omega (arith, x.ahead.nodes); shapes_long = omega (arith, x.ahead.shapes_long) }
+    ahead-next : Ahead f tree shapes (at + 6) (nodes - (j + 1))
+    ahead-next = let e : nodes - j - 1 ≡ nodes - (j + 1) = omega arith in record { placed = rw e at (placed-next x.ahead.placed (omega arith)); nodes = omega (arith, x.ahead.nodes); shapes_long = omega (arith, x.ahead.shapes_long) }
 
     module _ {fm : Form} (e : fm ≡ form_of f (cell_in tree shapes at)) where
       pub along-stands : Stands f tree shapes at fm
@@ -123,9 +124,9 @@ module _ {f tree shapes bytes : List ℕ} {at left from : ℕ} {b : Bool} (x : A
       pub along-sized : SizedAs fm
       along-sized = along-stands.sized
 
-      next-same : readable f (cell_in tree shapes at) (own fm bytes from) && readable_all f (cells_from tree shapes (at + 6) (left - 1)) (drop (from + size_as fm) bytes) ≡ b
+      next-same : readable f (cell_in tree shapes at) (own fm bytes from) && readable_all f (cells_from tree shapes (at + 6) (nodes - (j + 1))) (drop (from + size_as fm) bytes) ≡ b
       next-same =
-          sym (ap (λ l. readable_all f l (drop from bytes)) (cells-next tree shapes at left h) ∙ readable-next f (cell_in tree shapes at) (cells_from tree shapes (at + 6) (left - 1)) bytes from e) ∙ x.same
+          sym (ap (λ l. readable_all f l (drop from bytes)) (cells-next tree shapes at nodes j h) ∙ readable-next f (cell_in tree shapes at) (cells_from tree shapes (at + 6) (nodes - (j + 1))) bytes from e) ∙ x.same
 
       own-long : readable f (cell_in tree shapes at) (own fm bytes from) ≡ true → from + size_as fm ≤ length bytes
       own-long r = go (leb (size_as fm) (length bytes - from)) refl
@@ -142,7 +143,7 @@ module _ {f tree shapes bytes : List ℕ} {at left from : ℕ} {b : Bool} (x : A
           let rest : Bool = fills f fm d.node.low bs in
           fills-few f fm d.node.low bs (both all rest (both (held f d) (all && rest) (sym (own_is along-stands bytes from x.known) ∙ r)).1).1
 
-      further : readable f (cell_in tree shapes at) (own fm bytes from) ≡ true → {k : ℕ} → k ≡ size_as fm → Along f tree shapes bytes (at + 6) (left - 1) (from + k) b
+      further : readable f (cell_in tree shapes at) (own fm bytes from) ≡ true → {k : ℕ} → k ≡ size_as fm → Along f tree shapes bytes (at + 6) (nodes - (j + 1)) (from + k) b
       further r {k} q =
           record {
             ahead = ahead-next;
@@ -152,7 +153,7 @@ module _ {f tree shapes bytes : List ℕ} {at left from : ℕ} {b : Bool} (x : A
           }
 
       module _ {r : Bool} (i : r ≡ readable f (cell_in tree shapes at) (own fm bytes from)) where
-        pub along-more : not r ≡ false → {k : ℕ} → k ≡ size_as fm → Along f tree shapes bytes (at + 6) (left - 1) (from + k) b
+        pub along-more : not r ≡ false → {k : ℕ} → k ≡ size_as fm → Along f tree shapes bytes (at + 6) (nodes - (j + 1)) (from + k) b
         along-more n q = further (sym i ∙ not-false r n) q
 
         pub along-room : not r ≡ false → from + size_as fm ≤ length bytes
@@ -161,17 +162,17 @@ module _ {f tree shapes bytes : List ℕ} {at left from : ℕ} {b : Bool} (x : A
         pub along-stops : not r ≡ true → false ≡ b
         along-stops n = sym (rw (sym i ∙ not-true r n)) ∙ next-same
 
-  pub along-ends : left ≤ 0 → eqb from (length bytes) ≡ b
-  along-ends h = none_left f bytes from x.inside ∙ ap (λ l. readable_all f l (drop from bytes)) (sym (cells-none tree shapes at left h)) ∙ x.same
+  pub along-ends : nodes ≤ j → eqb from (length bytes) ≡ b
+  along-ends h = none_left f bytes from x.inside ∙ ap (λ l. readable_all f l (drop from bytes)) (sym (cells-none tree shapes at (nodes - j) (omega arith))) ∙ x.same
 
 pub ruleset all = (rules, form-is, along-first, along-tree, along-shapes, along-stands, along-more, along-room, along-stops, along-ends)
 
 -- ---- where the bytes are those that the nodes are written as
-module _ {f tree shapes bytes : List ℕ} {at left from : ℕ} (x : Along f tree shapes bytes at left from true) (h : 0 < left) {fm : Form} (e : fm ≡ form_of f (cell_in tree shapes at)) where
+module _ {f tree shapes bytes : List ℕ} {at nodes j from : ℕ} (x : Along f tree shapes bytes at (nodes - j) from true) (h : j < nodes) {fm : Form} (e : fm ≡ form_of f (cell_in tree shapes at)) where
   reads-own : readable f (cell_in tree shapes at) (own fm bytes from) ≡ true
   reads-own = (both (readable f (cell_in tree shapes at) (own fm bytes from)) _ (next-same x h e)).0
 
-  pub read_more : {k : ℕ} → k ≡ size_as fm → Along f tree shapes bytes (at + 6) (left - 1) (from + k) true
+  pub read_more : {k : ℕ} → k ≡ size_as fm → Along f tree shapes bytes (at + 6) (nodes - (j + 1)) (from + k) true
   read_more q = further x h e reads-own q
 
   pub read-room : from + size_as fm ≤ length bytes

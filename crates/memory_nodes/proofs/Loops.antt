@@ -47,106 +47,107 @@ module _ (f tree shapes bytes : List ℕ) (at left from : ℕ) where
   unfolding nodes_all
   nodes-none many h = ap (λ l. nodes_all f many l (drop from bytes)) (cells-none tree shapes at left h)
 
-module _ (f tree shapes bytes : List ℕ) (at left from : ℕ) (h : 0 < left) {fm : Form} (e : fm ≡ form_of f (cell_in tree shapes at)) {k : ℕ} (q : k ≡ size_as fm) where
-  text-more : text f tree shapes bytes at left from ≡ text_as fm (own fm bytes from) ++ text f tree shapes bytes (at + 6) (left - 1) (from + k)
+module _ (f tree shapes bytes : List ℕ) (at all j from : ℕ) (h : j < all) {fm : Form} (e : fm ≡ form_of f (cell_in tree shapes at)) {k : ℕ} (q : k ≡ size_as fm) where
+  text-more : text f tree shapes bytes at (all - j) from ≡ text_as fm (own fm bytes from) ++ text f tree shapes bytes (at + 6) (all - (j + 1)) (from + k)
   text-more =
-      ap (λ l. text_all f l (drop from bytes)) (cells-next tree shapes at left h)
-      ∙ text-next f (cell_in tree shapes at) (cells_from tree shapes (at + 6) (left - 1)) bytes from e
-      ∙ ap (λ j. text_as fm (own fm bytes from) ++ text_all f (cells_from tree shapes (at + 6) (left - 1)) (drop (from + j) bytes)) (sym q)
+      ap (λ l. text_all f l (drop from bytes)) (cells-next tree shapes at all j h)
+      ∙ text-next f (cell_in tree shapes at) (cells_from tree shapes (at + 6) (all - (j + 1))) bytes from e
+      ∙ ap (λ d. text_as fm (own fm bytes from) ++ text_all f (cells_from tree shapes (at + 6) (all - (j + 1))) (drop (from + d) bytes)) (sym q)
 
   nodes-more : (many : ℕ) {n : ℕ} → n ≡ length (text_as fm (own fm bytes from))
-      → nodes f tree shapes bytes at left from many
-      ≡ node_words_of (node_as f fm many (seen (get_or tree (at + 1) 0) (get_or tree (at + 3) 0)) (own fm bytes from)) ++ nodes f tree shapes bytes (at + 6) (left - 1) (from + k) (many + n)
+      → nodes f tree shapes bytes at (all - j) from many
+      ≡ node_words_of (node_as f fm many (seen (get_or tree (at + 1) 0) (get_or tree (at + 3) 0)) (own fm bytes from)) ++ nodes f tree shapes bytes (at + 6) (all - (j + 1)) (from + k) (many + n)
   nodes-more many {n} i =
-      ap (λ l. nodes_all f many l (drop from bytes)) (cells-next tree shapes at left h)
-      ∙ node-next f (cell_in tree shapes at) (cells_from tree shapes (at + 6) (left - 1)) bytes from e many
+      ap (λ l. nodes_all f many l (drop from bytes)) (cells-next tree shapes at all j h)
+      ∙ node-next f (cell_in tree shapes at) (cells_from tree shapes (at + 6) (all - (j + 1))) bytes from e many
       ∙ rw (q, i, read-seen f fm many (cell_in tree shapes at) (own fm bytes from))
 
 -- ---- counting
-pub record Counting (f tree shapes bytes : List ℕ) (nodes at left from total : ℕ) : Type 0 where
-  pub same : total + length (text_all f (cells_from tree shapes at left) (drop from bytes)) ≡ length (text_all f (cells_from tree shapes 0 nodes) bytes)
-  pub small : total + left * 65535 ≤ nodes * 65535
+pub record Counting (f tree shapes bytes : List ℕ) (nodes at j from total : ℕ) : Type 0 where
+  pub same : total + length (text_all f (cells_from tree shapes at (nodes - j)) (drop from bytes)) ≡ length (text_all f (cells_from tree shapes 0 nodes) bytes)
+  pub small : total + (nodes - j) * 65535 ≤ nodes * 65535
   pub few : nodes ≤ 2048
 
-pub counting-first : {f tree shapes : List ℕ} {nodes : ℕ} {bytes : List ℕ} → Ready f tree shapes nodes bytes → Counting f tree shapes bytes nodes 0 nodes 0 0
-counting-first r = record { same = omega arith; small = omega arith; few = r.few }
+pub counting-first : {f tree shapes : List ℕ} {nodes : ℕ} {bytes : List ℕ} → Ready f tree shapes nodes bytes → Counting f tree shapes bytes nodes 0 0 0 0
+counting-first {nodes = nodes} r = let all : nodes - 0 ≡ nodes = omega arith in record { same = rw all (omega arith); small = omega arith; few = r.few }
 
-module _ {f tree shapes bytes : List ℕ} {nodes at left from total : ℕ} (x : Counting f tree shapes bytes nodes at left from total) where
-  pub counting_more : 0 < left → {fm : Form} → fm ≡ form_of f (cell_in tree shapes at) → {k : ℕ} → k ≡ size_as fm → {n : ℕ} → n ≡ length (text_as fm (own fm bytes from)) → n ≤ 65535
-      → Counting f tree shapes bytes nodes (at + 6) (left - 1) (from + k) (total + n)
+module _ {f tree shapes bytes : List ℕ} {nodes at j from total : ℕ} (x : Counting f tree shapes bytes nodes at j from total) where
+  pub counting_more : j < nodes → {fm : Form} → fm ≡ form_of f (cell_in tree shapes at) → {k : ℕ} → k ≡ size_as fm → {n : ℕ} → n ≡ length (text_as fm (own fm bytes from)) → n ≤ 65535
+      → Counting f tree shapes bytes nodes (at + 6) (j + 1) (from + k) (total + n)
   counting_more h {fm} e {k} q {n} i s =
       record {
-        same = omega (arith, x.same, i, ap length (text-more f tree shapes bytes at left from h e q), length-append (text_as fm (own fm bytes from)) (text f tree shapes bytes (at + 6) (left - 1) (from + k)));
+        same = omega (arith, x.same, i, ap length (text-more f tree shapes bytes at nodes j from h e q), length-append (text_as fm (own fm bytes from)) (text f tree shapes bytes (at + 6) (nodes - (j + 1)) (from + k)));
         small = omega (arith, x.small, s);
         few = x.few;
       }
 
-  pub counting-below : 0 < left → total + 65535 ≤ 2048 * 65535
+  pub counting-below : j < nodes → total + 65535 ≤ 2048 * 65535
   counting-below h = omega (arith, x.small, x.few)
 
-  pub counting-done : left ≤ 0 → total ≡ length (text_all f (cells_from tree shapes 0 nodes) bytes)
-  counting-done h = omega (arith, x.same, ap length (text-none f tree shapes bytes at left from h))
+  pub counting-done : nodes ≤ j → total ≡ length (text_all f (cells_from tree shapes 0 nodes) bytes)
+  counting-done h = omega (arith, x.same, ap length (text-none f tree shapes bytes at (nodes - j) from (omega arith)))
 
 pub ruleset counts = (rules, form-is, along-ready, along-tree, along-shapes, read_more, read-room, counting-first, counting_more, counting-below, counting-done)
 
 -- ---- putting nodes
-pub record Noding (f tree shapes bytes : List ℕ) (nodes : ℕ) (old : List ℕ) (at left from many : ℕ) (now : List ℕ) : Type 0 where
-  pub putting : Putting (nodes_all f 0 (cells_from tree shapes 0 nodes) bytes) old 0 (nodes_all f many (cells_from tree shapes at left) (drop from bytes)) now at
-  pub small : many + left * 65535 ≤ nodes * 65535
+pub record Noding (f tree shapes bytes : List ℕ) (nodes : ℕ) (old : List ℕ) (at j from many : ℕ) (now : List ℕ) : Type 0 where
+  pub putting : Putting (nodes_all f 0 (cells_from tree shapes 0 nodes) bytes) old 0 (nodes_all f many (cells_from tree shapes at (nodes - j)) (drop from bytes)) now at
+  pub small : many + (nodes - j) * 65535 ≤ nodes * 65535
   pub few : nodes ≤ 2048
 
-pub noding-first : {f tree shapes : List ℕ} {nodes : ℕ} {bytes : List ℕ} → Ready f tree shapes nodes bytes → (old : List ℕ) → nodes * 6 ≤ length old → Noding f tree shapes bytes nodes old 0 nodes 0 0 old
+pub noding-first : {f tree shapes : List ℕ} {nodes : ℕ} {bytes : List ℕ} → Ready f tree shapes nodes bytes → (old : List ℕ) → nodes * 6 ≤ length old → Noding f tree shapes bytes nodes old 0 0 0 0 old
 noding-first {f} {tree} {shapes} {nodes} {bytes} r old h =
+    let all : nodes - 0 ≡ nodes = omega arith in
     record {
-      putting = putting-first (nodes_all f 0 (cells_from tree shapes 0 nodes) bytes) old 0 (omega (arith, nodes-long f tree shapes nodes 0 0 bytes));
+      putting = rw all (putting-first (nodes_all f 0 (cells_from tree shapes 0 nodes) bytes) old 0 (omega (arith, nodes-long f tree shapes nodes 0 0 bytes)));
       small = omega arith;
       few = r.few;
     }
 
-module _ {f tree shapes bytes : List ℕ} {nodes : ℕ} {old : List ℕ} {at left from many : ℕ} {now : List ℕ} (x : Noding f tree shapes bytes nodes old at left from many now) where
-  module _ (h : 0 < left) where
+module _ {f tree shapes bytes : List ℕ} {nodes : ℕ} {old : List ℕ} {at j from many : ℕ} {now : List ℕ} (x : Noding f tree shapes bytes nodes old at j from many now) where
+  module _ (h : j < nodes) where
     pub noding-room : at + 6 ≤ length now
-    noding-room = omega (arith, x.putting.room, nodes-long f tree shapes left at many (drop from bytes))
+    noding-room = omega (arith, x.putting.room, nodes-long f tree shapes (nodes - j) at many (drop from bytes))
 
     pub noding-fits : {n : ℕ} → n ≤ 65535 → Fits w32 (many + n)
     noding-fits s = record { fits = omega (arith, x.small, x.few) }
 
     pub noding-more : {fm : Form} → fm ≡ form_of f (cell_in tree shapes at) → {k : ℕ} → k ≡ size_as fm → {n : ℕ} → n ≡ length (text_as fm (own fm bytes from)) → n ≤ 65535 → {e : ℕ} {new : List ℕ}
-        → Puts (node_words_of (node_as f fm many (seen (get_or tree (at + 1) 0) (get_or tree (at + 3) 0)) (own fm bytes from))) now at e new → Noding f tree shapes bytes nodes old (at + 6) (left - 1) (from + k) (many + n) new
+        → Puts (node_words_of (node_as f fm many (seen (get_or tree (at + 1) 0) (get_or tree (at + 3) 0)) (own fm bytes from))) now at e new → Noding f tree shapes bytes nodes old (at + 6) (j + 1) (from + k) (many + n) new
     unfolding node_words_of
     noding-more {fm} e {k} q {n} i s {new = new} p =
-        let rest : List ℕ = nodes_all f (many + n) (cells_from tree shapes (at + 6) (left - 1)) (drop (from + k) bytes) in
+        let rest : List ℕ = nodes_all f (many + n) (cells_from tree shapes (at + 6) (nodes - (j + 1))) (drop (from + k) bytes) in
         record {
-          putting = subst (λ (j : ℕ). Putting (nodes_all f 0 (cells_from tree shapes 0 nodes) bytes) old 0 rest new j) p.ends (putting-more x.putting p rest (nodes-more f tree shapes bytes at left from h e q many i));
+          putting = subst (λ (j : ℕ). Putting (nodes_all f 0 (cells_from tree shapes 0 nodes) bytes) old 0 rest new j) p.ends (putting-more x.putting p rest (nodes-more f tree shapes bytes at nodes j from h e q many i));
           small = omega (arith, x.small, s);
           few = x.few;
         }
 
-  pub noding-done : left ≤ 0 → now ≡ nodes_all f 0 (cells_from tree shapes 0 nodes) bytes ++ drop (nodes * 6) old
+  pub noding-done : nodes ≤ j → now ≡ nodes_all f 0 (cells_from tree shapes 0 nodes) bytes ++ drop (nodes * 6) old
   noding-done h =
-      let p = putting-done x.putting (nodes-none f tree shapes bytes at left from many h) in
+      let p = putting-done x.putting (nodes-none f tree shapes bytes at (nodes - j) from many (omega arith)) in
       let e : at ≡ nodes * 6 = omega (arith, p.ends, nodes-long f tree shapes nodes 0 0 bytes) in
       p.is ∙ ap (λ j. nodes_all f 0 (cells_from tree shapes 0 nodes) bytes ++ drop j old) e
 
 -- ---- putting characters
-pub record Texting (f tree shapes bytes : List ℕ) (nodes : ℕ) (old : List ℕ) (at left from end : ℕ) (now : List ℕ) : Type 0 where
-  pub putting : Putting (text_all f (cells_from tree shapes 0 nodes) bytes) old 0 (text_all f (cells_from tree shapes at left) (drop from bytes)) now end
+pub record Texting (f tree shapes bytes : List ℕ) (nodes : ℕ) (old : List ℕ) (at j from end : ℕ) (now : List ℕ) : Type 0 where
+  pub putting : Putting (text_all f (cells_from tree shapes 0 nodes) bytes) old 0 (text_all f (cells_from tree shapes at (nodes - j)) (drop from bytes)) now end
 
-pub texting-first : (f tree shapes bytes : List ℕ) (nodes : ℕ) (old : List ℕ) → length (text_all f (cells_from tree shapes 0 nodes) bytes) ≤ length old → Texting f tree shapes bytes nodes old 0 nodes 0 0 old
-texting-first f tree shapes bytes nodes old h = record { putting = putting-first (text_all f (cells_from tree shapes 0 nodes) bytes) old 0 (omega (arith, h)) }
+pub texting-first : (f tree shapes bytes : List ℕ) (nodes : ℕ) (old : List ℕ) → length (text_all f (cells_from tree shapes 0 nodes) bytes) ≤ length old → Texting f tree shapes bytes nodes old 0 0 0 0 old
+texting-first f tree shapes bytes nodes old h = let all : nodes - 0 ≡ nodes = omega arith in record { putting = rw all (putting-first (text_all f (cells_from tree shapes 0 nodes) bytes) old 0 (omega (arith, h))) }
 
-module _ {f tree shapes bytes : List ℕ} {nodes : ℕ} {old : List ℕ} {at left from end : ℕ} {now : List ℕ} (x : Texting f tree shapes bytes nodes old at left from end now) where
-  module _ (h : 0 < left) {fm : Form} (e : fm ≡ form_of f (cell_in tree shapes at)) where
+module _ {f tree shapes bytes : List ℕ} {nodes : ℕ} {old : List ℕ} {at j from end : ℕ} {now : List ℕ} (x : Texting f tree shapes bytes nodes old at j from end now) where
+  module _ (h : j < nodes) {fm : Form} (e : fm ≡ form_of f (cell_in tree shapes at)) where
     pub texting-room : end + length (text_as fm (own fm bytes from)) ≤ length now
     texting-room =
-        omega (arith, x.putting.room, ap length (text-more f tree shapes bytes at left from h e refl), length-append (text_as fm (own fm bytes from)) (text f tree shapes bytes (at + 6) (left - 1) (from + size_as fm)))
+        omega (arith, x.putting.room, ap length (text-more f tree shapes bytes at nodes j from h e refl), length-append (text_as fm (own fm bytes from)) (text f tree shapes bytes (at + 6) (nodes - (j + 1)) (from + size_as fm)))
 
-    pub texting-more : {k : ℕ} → k ≡ size_as fm → {j : ℕ} {new : List ℕ} → Puts (text_as fm (own fm bytes from)) now end j new → Texting f tree shapes bytes nodes old (at + 6) (left - 1) (from + k) j new
-    texting-more {k} q p = record { putting = putting-more x.putting p (text f tree shapes bytes (at + 6) (left - 1) (from + k)) (text-more f tree shapes bytes at left from h e q) }
+    pub texting-more : {k : ℕ} → k ≡ size_as fm → {d : ℕ} {new : List ℕ} → Puts (text_as fm (own fm bytes from)) now end d new → Texting f tree shapes bytes nodes old (at + 6) (j + 1) (from + k) d new
+    texting-more {k} q p = record { putting = putting-more x.putting p (text f tree shapes bytes (at + 6) (nodes - (j + 1)) (from + k)) (text-more f tree shapes bytes at nodes j from h e q) }
 
-  pub texting-done : left ≤ 0 → now ≡ text_all f (cells_from tree shapes 0 nodes) bytes ++ drop (length (text_all f (cells_from tree shapes 0 nodes) bytes)) old
+  pub texting-done : nodes ≤ j → now ≡ text_all f (cells_from tree shapes 0 nodes) bytes ++ drop (length (text_all f (cells_from tree shapes 0 nodes) bytes)) old
   texting-done h =
-      let p = putting-done x.putting (text-none f tree shapes bytes at left from h) in
+      let p = putting-done x.putting (text-none f tree shapes bytes at (nodes - j) from (omega arith)) in
       let whole : List ℕ = text_all f (cells_from tree shapes 0 nodes) bytes in
       let e : end ≡ length whole = omega (arith, p.ends) in
       p.is ∙ ap (λ j. whole ++ drop j old) e

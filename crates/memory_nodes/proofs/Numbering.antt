@@ -1,10 +1,9 @@
 -- Bytes gone through one by one. Assumes nothing.
-use mathlib.Core.Path.{◌≡◌, refl, ap, sym, ◌∙◌}
-use mathlib.Core.Bool.{true, false, ◌&&◌}
-use mathlib.Core.List.{List, ◌∷◌}
+use mathlib.Core.Path.{◌≡◌, refl, ap, ◌∙◌}
+use mathlib.Core.Bool.{Bool, ◌&&◌}
+use mathlib.Core.List.{List, [], ◌∷◌}
 use Prim.Native.Nat.{ℕ, suc, ◌+◌, ◌-◌, ◌*◌, ◌^◌, ◌≤◌, ◌<◌}
 use native.Mathlib.Omega.{arith}
-use native.Mathlib.Numerals.{add-one}
 use native.Mathlib.Nat.{pow-succ', pow-le-pow_right, mul-le-mul_left}
 use lib.ListN.{length, get_or, take, drop}
 use lib.Seq.{drop-cons}
@@ -12,7 +11,7 @@ use borrow.Author.Rules.{rules}
 use mir.Syntax.{w8, w64}
 use mir.Val.{Fits}
 use lib.Dec.{eqb}
-use borrow.Author.Tests.{eq-eqb, ne_eqb}
+use Rattle.std.specs.List.{list_all}
 use Rattle.definition.specs.Base.{unused}
 use Rattle.memory_definition.specs.Numbers.{number_from}
 
@@ -79,34 +78,12 @@ module _ {bytes : List ℕ} {at count left n : ℕ} (x : Numbering bytes at coun
   added-fits b k = record { fits = omega (arith, numbering-room bytes at count x h l) }
 
 -- ---- zeros
--- up to a place all are 0
-pub record Zeroing (bytes : List ℕ) (from to at : ℕ) : Type 0 where
-  pub same : unused (take (to - at) (drop at bytes)) ≡ unused (take (to - from) (drop from bytes))
-  pub inside : at ≤ to
-
-unused-cons : (w : ℕ) (ws : List ℕ) → unused (w ∷ ws) ≡ eqb w 0 && unused ws
+zeros-listed : (bs : List ℕ) → list_all (λ b. eqb b 0) bs ≡ unused bs
 unfolding unused
-unused-cons w ws = refl
+zeros-listed [] = refl
+zeros-listed (b ∷ bs) = ap (λ t. eqb b 0 && t) (zeros-listed bs)
 
-pub zeroing-first : (bytes : List ℕ) (from to : ℕ) → from ≤ to → Zeroing bytes from to from
-zeroing-first bytes from to h = record { same = refl; inside = h }
+pub all-zeros : (l : List ℕ) {r : Bool} → r ≡ list_all (λ b. eqb b 0) l → r ≡ unused l
+all-zeros l e = e ∙ zeros-listed l
 
-module _ {bytes : List ℕ} {from to at : ℕ} (x : Zeroing bytes from to at) where
-  module _ (h : at < to) (l : to ≤ length bytes) where
-    next-byte : unused (take (to - at) (drop at bytes)) ≡ eqb (get_or bytes at 0) 0 && unused (take (to - (at + 1)) (drop (at + 1) bytes))
-    next-byte =
-        let one : to - at ≡ suc (to - (at + 1)) = omega arith in
-        let long : at < length bytes = omega arith in
-        rw (one, drop-cons bytes at 0 long, ← add-one at, unused-cons (get_or bytes at 0) (take (to - (at + 1)) (drop (at + 1) bytes)))
-
-    pub zeroing-more : get_or bytes at 0 ≡ 0 → Zeroing bytes from to (at + 1)
-    zeroing-more z = record { same = sym (next-byte ∙ rw (eq-eqb (get_or bytes at 0) 0 z)) ∙ x.same; inside = omega arith }
-
-    pub zeroing-stops : (get_or bytes at 0 ≡ 0 → ⊥) → false ≡ unused (take (to - from) (drop from bytes))
-    zeroing-stops z = sym (next-byte ∙ rw (ne_eqb (get_or bytes at 0) 0 z)) ∙ x.same
-
-  pub zeroing-done : to ≤ at → true ≡ unused (take (to - from) (drop from bytes))
-  unfolding unused
-  zeroing-done h = let none : to - at ≡ 0 = omega arith in sym (ap (λ k. unused (take k (drop at bytes))) none) ∙ x.same
-
-pub ruleset numbering = (rules, numbering-first, numbering-more, numbering-is, numbering-small, byte-below, byte_fits, shifted_fits, added-fits, zeroing-first, zeroing-more, zeroing-stops, zeroing-done)
+pub ruleset numbering = (rules, numbering-first, numbering-more, numbering-is, numbering-small, byte-below, byte_fits, shifted_fits, added-fits, all-zeros)

@@ -13,7 +13,6 @@ use borrow.Author.Rules.{rules}
 use borrow.Author.Tests.{le-leb}
 use Rattle.laws.specs.Puts.{Puts, puts_none, put_one}
 use Rattle.text.proofs.Putting.{Putting, putting-first, putting-more, putting-done}
-use Rattle.tree.specs.declared.extent.Extent.{Extent}
 use Rattle.tree.specs.declared.node.Node.{Node}
 use Rattle.tree.specs.Node.{as_node, words_of}
 use Rattle.tree.specs.Words.{WroteNode}
@@ -26,62 +25,64 @@ use Rattle.memory_definition.specs.Forms.{size_as, text_as}
 use Rattle.memory_laws.specs.Bytes.{text-many}
 use Rattle.memory_nodes.specs.Reading.{own, Few, drop-take, length-own}
 use Rattle.memory_nodes.proofs.Nodes.{string-room, length-room}
+use Rattle.std.specs.Prelude.{Option}
 
 -- ---- characters one by one
-text-next : (size left : ℕ) (bytes : List ℕ) (place : ℕ) → 0 < left → text_from size left (drop place bytes) ≡ number_from (take size (drop place bytes)) ∷ text_from size (left - 1) (drop (place + size) bytes)
+text-next : (size many j : ℕ) (bytes : List ℕ) (place : ℕ) → j < many → text_from size (many - j) (drop place bytes) ≡ number_from (take size (drop place bytes)) ∷ text_from size (many - (j + 1)) (drop (place + size) bytes)
 unfolding text_from
-text-next size left bytes place h =
-    let e : left ≡ suc (left - 1) = omega arith in
-    ap (λ k. text_from size k (drop place bytes)) e ∙ ap (λ l. number_from (take size (drop place bytes)) ∷ text_from size (left - 1) l) (drop-drop size place bytes)
+text-next size many j bytes place h =
+    let e : many - j ≡ suc (many - (j + 1)) = omega arith in
+    ap (λ k. text_from size k (drop place bytes)) e ∙ ap (λ l. number_from (take size (drop place bytes)) ∷ text_from size (many - (j + 1)) l) (drop-drop size place bytes)
 
 text-empty : (size left : ℕ) (l : List ℕ) → left ≤ 0 → text_from size left l ≡ []
 unfolding text_from
 text-empty size left l h = let e : left ≡ 0 = omega arith in ap (λ k. text_from size k l) e
 
--- of so many characters from a place on, `left` are still to be put
-pub record Characters (width many : ℕ) (bytes : List ℕ) (from : ℕ) (old : List ℕ) (at size place end left : ℕ) (now : List ℕ) : Type 0 where
-  pub putting : Putting (text_from (character_bytes width) many (drop from bytes)) old at (text_from size left (drop place bytes)) now end
+-- of so many characters from a place on, j are put
+pub record Characters (width many : ℕ) (bytes : List ℕ) (from : ℕ) (old : List ℕ) (at size place end j : ℕ) (now : List ℕ) : Type 0 where
+  pub putting : Putting (text_from (character_bytes width) many (drop from bytes)) old at (text_from size (many - j) (drop place bytes)) now end
   pub sized : size ≡ character_bytes width
   pub small : size ≤ 2
-  pub inside : place + size * left ≤ length bytes
+  pub inside : place + size * (many - j) ≤ length bytes
 
 pub characters-first : (width many : ℕ) (bytes : List ℕ) (from : ℕ) (old : List ℕ) (at : ℕ) {size : ℕ} → size ≡ character_bytes width → size ≤ 2 → from + character_bytes width * many ≤ length bytes → at + many ≤ length old
-    → Characters width many bytes from old at size from at many old
+    → Characters width many bytes from old at size from at 0 old
 characters-first width many bytes from old at {size} e s h g =
+    let all : many - 0 ≡ many = omega arith in
     record {
       putting =
-          rw e
+          rw (e, all)
           (putting-first (text_from (character_bytes width) many (drop from bytes)) old at (omega (arith, text-many (character_bytes width) many (drop from bytes))));
       sized = e;
       small = s;
-      inside = omega (arith, h, ap (λ k. k * many) e);
+      inside = rw (all, e) h;
     }
 
-module _ {width many : ℕ} {bytes : List ℕ} {from : ℕ} {old : List ℕ} {at size place end left : ℕ} {now : List ℕ} (x : Characters width many bytes from old at size place end left now) where
-  module _ (h : 0 < left) where
-    left_is : size * left ≡ size * (left - 1) + size
-    left_is = let e : left ≡ suc (left - 1) = omega arith in ap (λ k. size * k) e ∙ mul-suc size (left - 1)
+module _ {width many : ℕ} {bytes : List ℕ} {from : ℕ} {old : List ℕ} {at size place end j : ℕ} {now : List ℕ} (x : Characters width many bytes from old at size place end j now) where
+  module _ (h : j < many) where
+    left_is : size * (many - j) ≡ size * (many - (j + 1)) + size
+    left_is = let e : many - j ≡ suc (many - (j + 1)) = omega arith in ap (λ k. size * k) e ∙ mul-suc size (many - (j + 1))
 
     pub character-there : place + size ≤ length bytes
     character-there = omega (arith, x.inside, left_is)
 
     pub character-room : end < length now
-    character-room = omega (arith, x.putting.room, text-many size left (drop place bytes))
+    character-room = omega (arith, x.putting.room, text-many size (many - j) (drop place bytes))
 
     pub character-fits : {n : ℕ} → n < 256 ^ size → Fits w32 n
     character-fits l = record { fits = omega (arith, l, pow-le-pow_right {n = 256} (omega arith) {i = size} {j = 2} x.small) }
 
-    pub characters-more : {n e : ℕ} {new : List ℕ} → n ≡ number_from (take size (drop place bytes)) → Puts (n ∷ []) now end e new → Characters width many bytes from old at size (place + size) e (left - 1) new
+    pub characters-more : {n e : ℕ} {new : List ℕ} → n ≡ number_from (take size (drop place bytes)) → Puts (n ∷ []) now end e new → Characters width many bytes from old at size (place + size) e (j + 1) new
     characters-more {n} i p =
         record {
-          putting = putting-more x.putting p (text_from size (left - 1) (drop (place + size) bytes)) (text-next size left bytes place h ∙ ap (λ k. k ∷ text_from size (left - 1) (drop (place + size) bytes)) (sym i));
+          putting = putting-more x.putting p (text_from size (many - (j + 1)) (drop (place + size) bytes)) (text-next size many j bytes place h ∙ ap (λ k. k ∷ text_from size (many - (j + 1)) (drop (place + size) bytes)) (sym i));
           sized = x.sized;
           small = x.small;
           inside = omega (arith, x.inside, left_is);
         }
 
-  pub characters-done : left ≤ 0 → Puts (text_from (character_bytes width) many (drop from bytes)) old at end now
-  characters-done h = putting-done x.putting (text-empty size left (drop place bytes) h)
+  pub characters-done : many ≤ j → Puts (text_from (character_bytes width) many (drop from bytes)) old at end now
+  characters-done h = putting-done x.putting (text-empty size (many - j) (drop place bytes) (omega arith))
 
 -- ---- the characters of a form
 module _ (fm : Form) (bs : List ℕ) where
@@ -166,7 +167,7 @@ module _ (fm : Form) (bytes : List ℕ) (from : ℕ) {most width : ℕ} (e : fm 
   string-puts h p = rw (string-own h) p
 
 -- ---- nodes
-pub node-puts : (old : List ℕ) (at : ℕ) (n : Node) {r : Extent} {new : List ℕ} → at + 6 ≤ length old → WroteNode old at (words_of n) r new → Puts (words_of n) old at (at + 6) new
+pub node-puts : (old : List ℕ) (at : ℕ) (n : Node) {r : Option ℕ} {new : List ℕ} → at + 6 ≤ length old → WroteNode old at (words_of n) r new → Puts (words_of n) old at (at + 6) new
 node-puts old at n h w = record { ends = refl; fits = h; is = w.is ∙ rw (le-leb (at + 6) (length old) h) }
 
 pub read-puts : (h : tree.Node) {n : Node} → n ≡ as_node h → {old new : List ℕ} {at r : ℕ} → Puts (words_of n) old at r new → Puts (node_words_of h) old at r new

@@ -1,4 +1,6 @@
 // Numbers and zeros in bytes.
+#![tactic(auto, using(crate::proofs::Numbering::numbering))]
+
 ghost use Rattle.std.specs.Prelude.{◌≡◌, ◌+◌, ◌-◌, ◌^◌, ◌<◌, ◌≤◌, length, take, drop};
 ghost use Rattle.definition.specs.Base.{unused};
 ghost use Rattle.memory_definition.specs.Numbers.{number_from};
@@ -10,9 +12,7 @@ pub fn number_from(bytes: &[u8], at: usize, count: usize) -> u64
     ensures small { result < 256 ^ count }
 {
     let mut n: u64 = 0;
-    let mut left = count;
-    while left > 0 {
-        left -= 1;
+    for left in (0..count).rev() {
         n = n * 256 + (bytes[at + left] as u64);
     }
     n
@@ -23,12 +23,5 @@ pub fn zeros(bytes: &[u8], from: usize, to: usize) -> bool
     requires { (from ≤ to) × (to ≤ length bytes.now) }
     ensures { result ≡ unused (take (to - from) (drop from bytes.now)) }
 {
-    let mut at = from;
-    while at < to {
-        if bytes[at] != 0 {
-            return false;
-        }
-        at += 1;
-    }
-    true
+    bytes[from..to].iter().all(|b| *b == 0)
 }

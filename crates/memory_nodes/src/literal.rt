@@ -1,4 +1,6 @@
 // Numbers as literals: the constants that nodes hold.
+#![tactic(auto, using(crate::proofs::Literals::literals))]
+
 ghost use Rattle.std.specs.Prelude.{◌≡◌, ◌/◌, ◌%◌, ◌^◌, ◌<◌, ◌≤◌};
 ghost use Rattle.definition.specs.Records.{constant_of};
 ghost use Rattle.memory_definition.specs.Numbers.{literal_read};

@@ -1,9 +1,10 @@
 // A node read from its bytes, by its form: nameless, unqualified and of the kind and width of its shape's built-in default.
+#![tactic(auto, using(crate::proofs::Nodes::reads))]
+
 ghost use Rattle.std.specs.Prelude.{◌≡◌, ◌+◌, ◌*◌, ◌/◌, ◌<◌, ◌≤◌, length, take, drop, eqb};
 ghost use Rattle.definition.specs.Base.{pick};
 ghost use Rattle.definition.specs.Records.{constant_of};
 ghost use Rattle.tree.specs.Node.{as_node};
-ghost use Rattle.records.specs.Starts.{StartsOf};
 ghost use Rattle.memory_definition.specs.Numbers.{number_from, literal_read};
 ghost use Rattle.memory_definition.specs.Forms.{size_as, node_of, real_read, string_read, node_as};
 ghost use Rattle.memory_laws.specs.Same.{SizedAs};
@@ -15,7 +16,7 @@ use definition::layout::MEMBERS;
 use definition::records::Constant;
 use memory_definition::form::Form;
 use reals::widen::widen;
-use records::words::run_word;
+use records::source::Source;
 use tree::node::Node;
 
 fn node(c: Constant) -> Node
@@ -32,6 +33,7 @@ fn node(c: Constant) -> Node
 }
 
 // With nothing but a kind and one word.
+#[tactic(auto, using(crate::proofs::Nodes::leaves))]
 fn simple(kind: u32, low: u32) -> Node
     ensures { result ≡ as_node (node_of (constant_of kind 0 low 0 0)) }
 {
@@ -44,6 +46,7 @@ fn simple(kind: u32, low: u32) -> Node
     })
 }
 
+#[tactic(auto, using(crate::proofs::Nodes::leaves))]
 fn real_read(bits: u64) -> Node
     ensures { result ≡ as_node (real_read bits) }
 {
@@ -60,6 +63,7 @@ pub fn short_from(bytes: &[u8], at: usize) -> u32
 }
 
 // A string without characters begins at 0.
+#[tactic(auto, using(crate::proofs::Nodes::leaves))]
 fn begins(at: u32, many: u32) -> u32
     ensures { result ≡ pick (eqb many 0) 0 at }
 {
@@ -69,6 +73,7 @@ fn begins(at: u32, many: u32) -> u32
     at
 }
 
+#[tactic(auto, using(crate::proofs::Nodes::leaves))]
 fn string_read(at: u32, many: u32, width: u32) -> Node
     ensures { result ≡ as_node (string_read at many width) }
 {
@@ -81,6 +86,7 @@ fn string_read(at: u32, many: u32, width: u32) -> Node
     })
 }
 
+#[tactic(auto, using(crate::proofs::Nodes::leaves))]
 fn number_read(signed: bool, bits: u32, kind: u32, width: u32, bytes: &[u8], from: usize) -> Node
     requires { (0 < bits) × (8 * (bits / 8) ≡ bits) × (bits ≤ 64) × (from + bits / 8 ≤ length bytes.now) }
     ensures { result ≡ as_node (node_of (literal_read signed bits kind width (number_from (take (bits / 8) (drop from bytes.now))))) }
@@ -91,8 +97,7 @@ fn number_read(signed: bool, bits: u32, kind: u32, width: u32, bytes: &[u8], fro
 
 // `head` and `parts` are the kind and the number of parts of the node that stands there; the characters of a string stand behind `at` others.
 pub fn node_read(
-    file: &[u32],
-    source: &[usize],
+    file: &Source<'_>,
     form: Form,
     at: u32,
     head: u32,
@@ -100,7 +105,7 @@ pub fn node_read(
     bytes: &[u8],
     from: usize,
 ) -> Node
-    requires { StartsOf file.now source.now × SizedAs form × (from + size_as form ≤ length bytes.now) }
+    requires { SizedAs form × (from + size_as form ≤ length bytes.now) }
     ensures { result ≡ as_node (node_as file.now form at (seen head parts) (own form bytes.now from)) }
 {
     match form {
@@ -117,10 +122,7 @@ pub fn node_read(
         Form::LongReal => real_read(number_from(bytes, from, 8)),
         Form::String { most: _, width } => string_read(at, short_from(bytes, from + 2), width),
         Form::Enumeration { first, count: _ } => {
-            simple(
-                9,
-                run_word(file, source, MEMBERS, first, short_from(bytes, from), 0),
-            )
+            simple(9, file.run_word(MEMBERS, first, short_from(bytes, from), 0))
         }
         Form::Nothing => simple(0, 0),
     }

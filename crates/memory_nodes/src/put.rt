@@ -1,7 +1,8 @@
 // Characters and nodes put into lent words, each behind those before.
+#![tactic(auto, using(crate::proofs::Texts::texts))]
+
 ghost use Rattle.std.specs.Prelude.{◌≡◌, [], ◌∷◌, ◌+◌, ◌*◌, ◌<◌, ◌≤◌, length, drop, get_or};
 ghost use Rattle.laws.specs.Puts.{Puts};
-ghost use Rattle.records.specs.Starts.{StartsOf};
 ghost use Rattle.tree.specs.Node.{words_of};
 ghost use Rattle.memory_definition.specs.Numbers.{character_bytes, text_from};
 ghost use Rattle.memory_definition.specs.Memory.{node_words_of};
@@ -14,8 +15,10 @@ use crate::node::{node_read, short_from};
 use definition::layout::NODE_WORDS;
 use memory_definition::form::Form;
 use memory_forms::form::character_size;
+use records::source::Source;
 use tree::node::{Node, write};
 
+#[tactic(auto, using(crate::proofs::Texts::characters))]
 fn put_word(words: &mut [u32], at: usize, word: u32) -> usize
     requires { at < length words.old }
     ensures { Puts (word ∷ []) words.old at result words.new }
@@ -25,6 +28,7 @@ fn put_word(words: &mut [u32], at: usize, word: u32) -> usize
 }
 
 // So many characters of a width.
+#[tactic(auto, using(crate::proofs::Texts::characters))]
 fn put_characters(
     characters: &mut [u32],
     at: usize,
@@ -39,12 +43,10 @@ fn put_characters(
     let size = character_size(width);
     let mut place = from;
     let mut end = at;
-    let mut left = many;
-    while left > 0 {
+    for _ in 0..many {
         let character = number_from(bytes, place, size) as u32;
         end = put_word(characters, end, character);
         place += size;
-        left -= 1;
     }
     end
 }
@@ -89,6 +91,7 @@ pub fn put_text(characters: &mut [u32], at: usize, form: Form, bytes: &[u8], fro
     }
 }
 
+#[tactic(auto, using(crate::proofs::Texts::nodes))]
 fn put_node(out: &mut [u32], at: usize, node: Node) -> usize
     requires { at + 6 ≤ length out.old }
     ensures { Puts (words_of node) out.old at result out.new }
@@ -98,9 +101,9 @@ fn put_node(out: &mut [u32], at: usize, node: Node) -> usize
 }
 
 // The node that is read in place of the one at `at`; its characters stand behind so many others.
+#[tactic(auto, using(crate::proofs::Texts::nodes))]
 pub fn put_read(
-    file: &[u32],
-    source: &[usize],
+    file: &Source<'_>,
     tree: &[u32],
     at: usize,
     form: Form,
@@ -109,18 +112,9 @@ pub fn put_read(
     from: usize,
     out: &mut [u32],
 ) -> usize
-    requires { StartsOf file.now source.now × SizedAs form × (from + size_as form ≤ length bytes.now) × (at + 6 ≤ length tree.now) × (at + 6 ≤ length out.old) }
+    requires { SizedAs form × (from + size_as form ≤ length bytes.now) × (at + 6 ≤ length tree.now) × (at + 6 ≤ length out.old) }
     ensures { Puts (node_words_of (node_as file.now form many (seen (get_or tree.now (at + 1) 0) (get_or tree.now (at + 3) 0)) (own form bytes.now from))) out.old at result out.new }
 {
-    let node = node_read(
-        file,
-        source,
-        form,
-        many,
-        tree[at + 1],
-        tree[at + 3],
-        bytes,
-        from,
-    );
+    let node = node_read(file, form, many, tree[at + 1], tree[at + 3], bytes, from);
     put_node(out, at, node)
 }

@@ -1,8 +1,9 @@
 // Whether bytes are those that a node is written as.
+#![tactic(auto, using(crate::proofs::Filling::fillings))]
+
 ghost use Rattle.std.specs.Prelude.{◌≡◌, suc, ◌+◌, ◌-◌, ◌*◌, ◌%◌, ◌≤◌, length, take, drop};
 ghost use Rattle.definition.specs.Layout.{members};
 ghost use Rattle.definition.specs.Places.{first_named};
-ghost use Rattle.records.specs.Starts.{StartsOf};
 ghost use Rattle.memory_definition.specs.Numbers.{character_bytes};
 ghost use Rattle.memory_definition.specs.Forms as Forms;
 ghost use Rattle.memory_definition.specs.Forms.{size_as};
@@ -18,13 +19,14 @@ use memory_forms::form::{size_of, text_size};
 use memory_forms::held::held;
 use memory_forms::members::member_place;
 use memory_forms::words::shape_in;
+use records::source::Source;
 
 // Where a member first stands in its run, 0 where it does not.
-fn first_place(file: &[u32], source: &[usize], name: u32, first: u32, many: u32) -> u32
-    requires { StartsOf file.now source.now }
+#[tactic(auto, using(crate::proofs::Filling::places))]
+fn first_place(file: &Source<'_>, name: u32, first: u32, many: u32) -> u32
     ensures { result ≡ first_named file.now members name first many - suc first }
 {
-    let place = member_place(file, source, name, first, many);
+    let place = member_place(file, name, first, many);
     if place < many {
         return place;
     }
@@ -32,6 +34,7 @@ fn first_place(file: &[u32], source: &[usize], name: u32, first: u32, many: u32)
 }
 
 // A string's greatest length, its length, and zeros behind its characters.
+#[tactic(auto, using(crate::proofs::Filling::strings))]
 fn string_fills(bytes: &[u8], from: usize, most: u32, width: u32) -> bool
     requires { from + (4 + character_bytes width * most) ≤ length bytes.now }
     ensures { result ≡ Readable.string_fills most width (take (4 + character_bytes width * most) (drop from bytes.now)) }
@@ -52,8 +55,8 @@ fn string_fills(bytes: &[u8], from: usize, most: u32, width: u32) -> bool
 }
 
 // What the form asks of its bytes, where the node that is read from them is held; `low` is its word.
-fn fills(file: &[u32], source: &[usize], form: Form, low: u32, bytes: &[u8], from: usize) -> bool
-    requires { StartsOf file.now source.now × (from + size_as form ≤ length bytes.now) }
+fn fills(file: &Source<'_>, form: Form, low: u32, bytes: &[u8], from: usize) -> bool
+    requires { (from + size_as form ≤ length bytes.now) }
     ensures { result ≡ Readable.fills file.now form low (own form bytes.now from) }
 {
     match form {
@@ -65,16 +68,16 @@ fn fills(file: &[u32], source: &[usize], form: Form, low: u32, bytes: &[u8], fro
         Form::LongReal => true,
         Form::String { most, width } => string_fills(bytes, from, most, width),
         Form::Enumeration { first, count } => {
-            short_from(bytes, from) == first_place(file, source, low, first, count) % 65536
+            short_from(bytes, from) == first_place(file, low, first, count) % 65536
         }
         Form::Nothing => false,
     }
 }
 
 // The shape of the node at `at` holds what is read from the bytes, and that is written as them.
+#[tactic(auto, using(crate::proofs::Filling::readables))]
 fn is_written(
-    file: &[u32],
-    source: &[usize],
+    file: &Source<'_>,
     tree: &[u32],
     shapes: &[u32],
     at: usize,
@@ -82,29 +85,20 @@ fn is_written(
     bytes: &[u8],
     from: usize,
 ) -> bool
-    requires { StartsOf file.now source.now × Stands file.now tree.now shapes.now at form × Bytes bytes.now × (from + size_as form ≤ length bytes.now) }
+    requires { Stands file.now tree.now shapes.now at form × Bytes bytes.now × (from + size_as form ≤ length bytes.now) }
     ensures { result ≡ Forms.readable file.now (cell_in tree.now shapes.now at) (own form bytes.now from) }
 {
-    let read = node_read(
-        file,
-        source,
-        form,
-        0,
-        tree[at + 1],
-        tree[at + 3],
-        bytes,
-        from,
-    );
-    if !held(file, source, shape_in(shapes, at), read) {
+    let read = node_read(file, form, 0, tree[at + 1], tree[at + 3], bytes, from);
+    if !held(file, shape_in(shapes, at), read) {
         return false;
     }
-    fills(file, source, form, read.low, bytes, from)
+    fills(file, form, read.low, bytes, from)
 }
 
 // The same of the bytes from a place on, if there are as many as the form has.
+#[tactic(auto, using(crate::proofs::Filling::readables))]
 pub fn readable(
-    file: &[u32],
-    source: &[usize],
+    file: &Source<'_>,
     tree: &[u32],
     shapes: &[u32],
     at: usize,
@@ -112,11 +106,11 @@ pub fn readable(
     bytes: &[u8],
     from: usize,
 ) -> bool
-    requires { StartsOf file.now source.now × Stands file.now tree.now shapes.now at form × Bytes bytes.now × (from ≤ length bytes.now) }
+    requires { Stands file.now tree.now shapes.now at form × Bytes bytes.now × (from ≤ length bytes.now) }
     ensures { result ≡ Forms.readable file.now (cell_in tree.now shapes.now at) (own form bytes.now from) }
 {
     if bytes.len() - from < size_of(form) {
         return false;
     }
-    is_written(file, source, tree, shapes, at, form, bytes, from)
+    is_written(file, tree, shapes, at, form, bytes, from)
 }

@@ -1,18 +1,11 @@
 -- What the answers of block.rt and field.rt stand for. Assumes nothing.
-use Rattle.std.specs.Prelude.{◌≡◌, refl, List, ℕ, zero, suc}
+use Rattle.std.specs.Prelude.{Option, Some, None, ◌≡◌, refl, List, ℕ, zero, suc}
 use Rattle.definition.specs.declared.records.Place.{Place}
 use Rattle.definition.specs.Base.{on_link}
 use Rattle.definition.specs.Layout.{word, types, shape_fields}
 use Rattle.definition.specs.Ask.{Result, ok, none}
 use Rattle.definition.specs.Places.{place_of, first_named, recorded_block, block_field_type, structure_field_place, block_names, block_field_names}
-use Rattle.places.specs.declared.block.Block.{Block}
-use Rattle.places.specs.declared.block.Block.TheVariants as block
-use Rattle.places.specs.declared.field.Found.{Found}
-use Rattle.places.specs.declared.field.Found.TheVariants as found
-
-abbrev pub place_in : Found → Result Place
-place_in (found.Place place) = ok place
-place_in found.None = none
+use Rattle.places.specs.declared.block.Run.{Run}
 
 -- the place of the type that a link leads to
 unfoldable pub linked_place : List ℕ → ℕ → Result Place
@@ -27,24 +20,25 @@ unfoldable pub block_field : List ℕ → ℕ → ℕ → Result Place
 block_field f l name = on_link l none (λ t. linked_place f (block_field_type f t name))
 
 -- the run of a block's fields
-unfoldable pub block_run : List ℕ → Place → Block
-block_run f place = on_link place.id block.None (λ t. on_link (recorded_block f t) block.None (λ b. block.Fields (word f types b 9) (word f types b 10)))
+unfoldable pub block_run : List ℕ → Place → Option Run
+block_run f place =
+    on_link place.id None (λ t. on_link (recorded_block f t) None (λ b. Some (record { first = word f types b 9; count = word f types b 10 })))
 
 -- its names
-unfoldable pub names_of : List ℕ → Block → Result (List ℕ)
-names_of f (block.Fields first many) = ok (block_names f first many)
-names_of f block.None = none
+unfoldable pub names_of : List ℕ → Option Run → Result (List ℕ)
+names_of f (Some run) = ok (block_names f run.first run.count)
+names_of f None = none
 
 pub names-of-run : (f : List ℕ) (place : Place) → block_field_names f place ≡ names_of f (block_run f place)
 unfolding block_field_names block_run names_of
 names-of-run f place = typed place.id
   where
     recorded : (b : ℕ) → on_link b none (λ b. ok (block_names f (word f types b 9) (word f types b 10)))
-        ≡ names_of f (on_link b block.None (λ b. block.Fields (word f types b 9) (word f types b 10)))
+        ≡ names_of f (on_link b None (λ b. Some (record { first = word f types b 9; count = word f types b 10 })))
     recorded zero = refl
     recorded (suc b) = refl
 
     typed : (l : ℕ) → on_link l none (λ t. on_link (recorded_block f t) none (λ b. ok (block_names f (word f types b 9) (word f types b 10))))
-        ≡ names_of f (on_link l block.None (λ t. on_link (recorded_block f t) block.None (λ b. block.Fields (word f types b 9) (word f types b 10))))
+        ≡ names_of f (on_link l None (λ t. on_link (recorded_block f t) None (λ b. Some (record { first = word f types b 9; count = word f types b 10 }))))
     typed zero = refl
     typed (suc t) = recorded (recorded_block f t)

@@ -21,9 +21,8 @@ use Rattle.scalar.specs.Convert.{Counts}
 use Rattle.laws.specs.Pointed.{Run, ShapePointed, shape-pointed, named-of}
 use Rattle.laws.specs.Nearby.{Below, placed-bare, below_of, below-typed, below-element, below-structure, block-field}
 use Rattle.laws.specs.Used.{IsType, leads-inside}
-use Rattle.places.specs.declared.field.Found.{Found}
-use Rattle.places.specs.declared.field.Found.TheVariants as found
-use Rattle.places.specs.Found.{place_in}
+use Rattle.definition.specs.Ask.{result_of}
+use Rattle.std.specs.Prelude.{Option, Some}
 use Rattle.places.specs.Shapes.{on-kind}
 
 -- a shape whose numbers and runs lie inside their sections; a string's width is 0 or 1, a number has 8, 16, 32 or 64 bits
@@ -133,8 +132,8 @@ module _ (f : List ℕ) (a : Accepted f) where
       (λ n e. tt) tt
 
   -- the place that `field_place` finds
-  pub field_found : (place : Place) (name : ℕ) → PlaceIn f place → {r : Found} → place_in r ≡ field_place f place name → {p : Place} → r ≡ found.Place p → PlaceIn f p
-  field_found place name i {r} h {p} e = let o : OnOk (PlaceIn f) (place_in r) = rw h (field_in place name i) in rw e at o
+  pub field_found : (place : Place) (name : ℕ) → PlaceIn f place → {r : Option Place} → result_of r ≡ field_place f place name → {p : Place} → r ≡ Some p → PlaceIn f p
+  field_found place name i {r} h {p} e = let o : OnOk (PlaceIn f) (result_of r) = rw h (field_in place name i) in rw e at o
 
   pub variable-in : (v i : ℕ) → Link (IsType f) (word f variables v 2) → i < count f initializers → OnOk (PlaceIn f) (variable_place f v i)
   unfolding variable_place string_place bare
@@ -146,8 +145,8 @@ module _ (f : List ℕ) (a : Accepted f) where
 
   -- the place that `variable_place` finds
   pub variable-found : (v i : ℕ) → Link (IsType f) (word f variables v 2) → i < count f initializers
-      → {r : Found} → place_in r ≡ variable_place f v i → {p : Place} → r ≡ found.Place p → PlaceIn f p
-  variable-found v i l b {r} h {p} e = let o : OnOk (PlaceIn f) (place_in r) = rw h (variable-in v i l b) in rw e at o
+      → {r : Option Place} → result_of r ≡ variable_place f v i → {p : Place} → r ≡ Some p → PlaceIn f p
+  variable-found v i l b {r} h {p} e = let o : OnOk (PlaceIn f) (result_of r) = rw h (variable-in v i l b) in rw e at o
 
   -- the characters that a place of the file cuts of a literal of the file are counted in a word
   pub counts-in : (s : Shape) (n : ℕ) → ShapeIn f s → n < count f constants → Counts s (constant_at f n)

@@ -1,15 +1,16 @@
 // Fields by their name, and variables (`field_place`, `declaration_place`).
+#![tactic(auto, using(crate::proofs::field::Laws::laws))]
+
 ghost use Rattle.std.specs.Prelude.{◌≡◌, ◌<◌};
 ghost use Rattle.definition.specs.Base.{on_link};
 ghost use Rattle.definition.specs.Layout as Layout;
 ghost use Rattle.definition.specs.Layout.{shapes};
 ghost use Rattle.definition.specs.Places.{field_declaration, structure_field_place, field_place, string_place, variable_place};
-ghost use Rattle.laws.specs.Accepted.{Accepted};
 ghost use Rattle.laws.specs.Links.{Link};
 ghost use Rattle.laws.specs.Used.{IsType};
-ghost use Rattle.records.specs.Starts.{StartsOf, DeclaredIn};
 ghost use Rattle.shapes.specs.Classes.{Classes};
-ghost use Rattle.places.specs.Found.{place_in, linked_place, structure_field, block_field};
+ghost use Rattle.definition.specs.Ask.{result_of};
+ghost use Rattle.places.specs.Found.{linked_place, structure_field, block_field};
 ghost use Rattle.places.specs.Inside.{PlaceIn, FieldsIn};
 
 use crate::block::block_field_type;
@@ -18,136 +19,112 @@ use crate::named::first_named;
 use crate::place::{bare, place_of, typed_place};
 use definition::layout::{INITIALIZERS, INLINE, SHAPE_FIELDS, VARIABLES};
 use definition::records::{Place, Shape};
-use records::view::shape_at;
-use records::words::word;
-
-// A field's or a variable's place, or none.
-#[derive(Clone, Copy)]
-pub enum Found {
-    Place(Place),
-    None,
-}
+use records::file::File;
+use records::source::Source;
 
 // The place of the type that a link leads to.
-fn linked_place(file: &[u32], source: &[usize], id: u32) -> Found
-    requires { StartsOf file.now source.now }
-    ensures { place_in result ≡ linked_place file.now id }
+fn linked_place(file: &Source<'_>, id: u32) -> Option<Place>
+    ensures { result_of result ≡ linked_place file.now id }
 {
     if id == 0 {
-        return Found::None;
+        return None;
     }
-    Found::Place(place_of(file, source, id - 1))
+    Some(place_of(file, id - 1))
 }
 
 // The initializer that declares a field of a place, as a link.
-fn place_declaration(file: &[u32], source: &[usize], place: Place, name: u32) -> u32
-    requires { StartsOf file.now source.now × Accepted file.now × PlaceIn file.now place × DeclaredIn file.now source.now }
-    ensures { result ≡ on_link place.id 0 (field_declaration file.now name) }
+fn place_declaration(file: &File<'_>, place: Place, name: u32) -> u32
+    requires { PlaceIn file.now.source place }
+    ensures { result ≡ on_link place.id 0 (field_declaration file.now.source name) }
 {
     let id = place.id;
     if id == 0 {
         return 0;
     }
-    field_declaration(file, source, name, id - 1)
+    field_declaration(file, name, id - 1)
 }
 
 // A field, of the shape s, of a structure.
-fn structure_field_place(
-    file: &[u32],
-    source: &[usize],
-    classes: &[u32],
-    place: Place,
-    name: u32,
-    s: u32,
-) -> Place
-    requires { StartsOf file.now source.now × Accepted file.now × Classes file.now classes.now × PlaceIn file.now place × (s < Layout.count file.now shapes) × DeclaredIn file.now source.now }
-    ensures { result ≡ structure_field_place file.now place name s }
+fn structure_field_place(file: &File<'_>, classes: &[u32], place: Place, name: u32, s: u32) -> Place
+    requires { Classes file.now.source classes.now × PlaceIn file.now.source place × (s < Layout.count file.now.source shapes) }
+    ensures { result ≡ structure_field_place file.now.source place name s }
 {
-    let i = place_declaration(file, source, place, name);
+    let i = place_declaration(file, place, name);
     if i == 0 {
-        return bare(shape_at(file, source, s));
+        return bare(file.source.shape(s));
     }
-    let id = declared_type(file, source, i - 1);
-    let element = declared_element(file, source, i - 1);
-    typed_place(file, source, classes, s, id, element)
+    let id = declared_type(&file.source, i - 1);
+    let element = declared_element(&file.source, i - 1);
+    typed_place(file, classes, s, id, element)
 }
 
 // A field of a structure whose fields are a run.
 fn structure_field(
-    file: &[u32],
-    source: &[usize],
+    file: &File<'_>,
     classes: &[u32],
     place: Place,
     first: u32,
     many: u32,
     name: u32,
-) -> Found
-    requires { StartsOf file.now source.now × Accepted file.now × Classes file.now classes.now × PlaceIn file.now place × FieldsIn file.now first many × DeclaredIn file.now source.now }
-    ensures { place_in result ≡ structure_field file.now place name first many }
+) -> Option<Place>
+    requires { Classes file.now.source classes.now × PlaceIn file.now.source place × FieldsIn file.now.source first many }
+    ensures { result_of result ≡ structure_field file.now.source place name first many }
 {
-    let field = first_named(file, source, SHAPE_FIELDS, name, first, many);
+    let field = first_named(&file.source, SHAPE_FIELDS, name, first, many);
     if field == 0 {
-        return Found::None;
+        return None;
     }
-    let s = word(file, source, SHAPE_FIELDS, field - 1, 1);
-    Found::Place(structure_field_place(file, source, classes, place, name, s))
+    let s = file.source.word(SHAPE_FIELDS, field - 1, 1);
+    Some(structure_field_place(file, classes, place, name, s))
 }
 
 // A field of a function block.
-fn block_field(file: &[u32], source: &[usize], id: u32, name: u32) -> Found
-    requires { StartsOf file.now source.now × Accepted file.now × Link (IsType file.now) id }
-    ensures { place_in result ≡ block_field file.now id name }
+fn block_field(file: &File<'_>, id: u32, name: u32) -> Option<Place>
+    requires { Link (IsType file.now.source) id }
+    ensures { result_of result ≡ block_field file.now.source id name }
 {
     if id == 0 {
-        return Found::None;
+        return None;
     }
-    let field = block_field_type(file, source, id - 1, name);
-    linked_place(file, source, field)
+    let field = block_field_type(file, id - 1, name);
+    linked_place(&file.source, field)
 }
 
 // A field of a structure or a function block, by its name.
-pub fn field_place(
-    file: &[u32],
-    source: &[usize],
-    classes: &[u32],
-    place: Place,
-    name: u32,
-) -> Found
-    requires { StartsOf file.now source.now × Accepted file.now × Classes file.now classes.now × PlaceIn file.now place × DeclaredIn file.now source.now }
-    ensures { place_in result ≡ field_place file.now place name }
+pub fn field_place(file: &File<'_>, classes: &[u32], place: Place, name: u32) -> Option<Place>
+    requires { Classes file.now.source classes.now × PlaceIn file.now.source place }
+    ensures { result_of result ≡ field_place file.now.source place name }
 {
     let shape = place.shape;
     match shape {
         Shape::Structure { first, count } => {
-            structure_field(file, source, classes, place, first, count, name)
+            structure_field(file, classes, place, first, count, name)
         }
-        Shape::FunctionBlock { name: _ } => block_field(file, source, place.id, name),
-        _ => Found::None,
+        Shape::FunctionBlock { name: _ } => block_field(file, place.id, name),
+        _ => None,
     }
 }
 
 // A string variable has the length and the width that its initializer states, none where the length is no integer.
-fn string_place(file: &[u32], source: &[usize], i: u32) -> Found
-    requires { StartsOf file.now source.now }
-    ensures { place_in result ≡ string_place file.now i }
+fn string_place(file: &Source<'_>, i: u32) -> Option<Place>
+    ensures { result_of result ≡ string_place file.now i }
 {
-    let length = word(file, source, INITIALIZERS, i, 6);
+    let length = file.word(INITIALIZERS, i, 6);
     if length == INLINE {
-        return Found::None;
+        return None;
     }
-    let width = word(file, source, INITIALIZERS, i, 7);
-    Found::Place(bare(Shape::String { length, width }))
+    let width = file.word(INITIALIZERS, i, 7);
+    Some(bare(Shape::String { length, width }))
 }
 
 // The place of the variable v with the initializer i: a string's comes from the initializer, any other's from its type.
-pub fn variable_place(file: &[u32], source: &[usize], v: u32, i: u32) -> Found
-    requires { StartsOf file.now source.now }
-    ensures { place_in result ≡ variable_place file.now v i }
+pub fn variable_place(file: &Source<'_>, v: u32, i: u32) -> Option<Place>
+    ensures { result_of result ≡ variable_place file.now v i }
 {
-    let kind = word(file, source, INITIALIZERS, i, 0);
+    let kind = file.word(INITIALIZERS, i, 0);
     if kind == 4 {
-        return string_place(file, source, i);
+        return string_place(file, i);
     }
-    let id = word(file, source, VARIABLES, v, 2);
-    linked_place(file, source, id)
+    let id = file.word(VARIABLES, v, 2);
+    linked_place(file, id)
 }

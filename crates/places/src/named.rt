@@ -1,11 +1,12 @@
 // Links, and records by their name.
+#![tactic(auto, using(crate::proofs::named::Laws::laws))]
+
 ghost use Rattle.std.specs.Prelude.{◌≡◌, ◌+◌, ◌^◌, ◌<◌};
 ghost use Rattle.definition.specs.Base as Base;
 ghost use Rattle.definition.specs.Layout as Layout;
 ghost use Rattle.definition.specs.Places.{first_named};
-ghost use Rattle.records.specs.Starts.{StartsOf};
 
-use records::words::word;
+use records::source::Source;
 
 // The first of two links that is one.
 pub fn or_else(a: u32, b: u32) -> u32
@@ -18,32 +19,25 @@ pub fn or_else(a: u32, b: u32) -> u32
 }
 
 // Word `place` of the record that a link leads to, 0 for none.
-pub fn linked_word(file: &[u32], source: &[usize], section: usize, link: u32, place: usize) -> u32
-    requires { StartsOf file.now source.now × (section < 14) × (place < 16) }
+pub fn linked_word(file: &Source<'_>, section: usize, link: u32, place: usize) -> u32
+    requires { (section < 14) × (place < 16) }
     ensures { result ≡ Base.on_link link 0 (λ n. Layout.word file.now section n place) }
 {
     if link == 0 {
         return 0;
     }
-    word(file, source, section, link - 1, place)
+    file.word(section, link - 1, place)
 }
 
 // The first record of a run that has a name, as a link.
-pub fn first_named(
-    file: &[u32],
-    source: &[usize],
-    section: usize,
-    name: u32,
-    first: u32,
-    many: u32,
-) -> u32
-    requires { StartsOf file.now source.now × (section < 14) × (first + many < 2 ^ 32) }
+pub fn first_named(file: &Source<'_>, section: usize, name: u32, first: u32, many: u32) -> u32
+    requires { (section < 14) × (first + many < 2 ^ 32) }
     ensures { result ≡ first_named file.now section name first many }
 {
     let mut at = first;
     let mut left = many;
     while left > 0 {
-        if word(file, source, section, at, 0) == name {
+        if file.word(section, at, 0) == name {
             return at + 1;
         }
         at += 1;

@@ -1,4 +1,6 @@
 // Places by their type or their shape, and what an array of arrays is filled with (`place_of`, `typed_place`, `element_place` and the loop in `array`).
+#![tactic(auto, using(crate::proofs::place::Laws::laws))]
+
 ghost use Rattle.std.specs.Prelude.{◌≡◌, ◌-◌, ◌^◌, ◌<◌};
 ghost use Rattle.definition.specs.Base.{on_link, pick};
 ghost use Rattle.definition.specs.Layout as Layout;
@@ -7,18 +9,16 @@ ghost use Rattle.definition.specs.Records.{type_shape, element_type};
 ghost use Rattle.definition.specs.Accept.{same_shape};
 ghost use Rattle.definition.specs.Places as Places;
 ghost use Rattle.definition.specs.Places.{place_of, typed_place, element_place, leaf_place};
-ghost use Rattle.laws.specs.Accepted.{Accepted};
 ghost use Rattle.laws.specs.Links.{Link};
 ghost use Rattle.laws.specs.Used.{IsType};
-ghost use Rattle.records.specs.Starts.{StartsOf};
 ghost use Rattle.shapes.specs.Classes.{Classes};
 ghost use Rattle.places.specs.Inside.{PlaceIn};
 
 use crate::named::{linked_word, or_else};
 use definition::layout::{SHAPES, TYPES};
 use definition::records::{Place, Shape};
-use records::view::shape_at;
-use records::words::{count, word};
+use records::file::File;
+use records::source::Source;
 use shapes::classes::same_shape;
 
 // A value of a shape that has no type.
@@ -33,27 +33,27 @@ pub fn bare(shape: Shape) -> Place
 }
 
 // A value of the type t.
-pub fn place_of(file: &[u32], source: &[usize], t: u32) -> Place
-    requires { StartsOf file.now source.now × (t < 2 ^ 32 - 1) }
+pub fn place_of(file: &Source<'_>, t: u32) -> Place
+    requires { (t < 2 ^ 32 - 1) }
     ensures { result ≡ place_of file.now t }
 {
-    let shape = shape_at(file, source, word(file, source, TYPES, t, 0));
+    let shape = file.shape(file.word(TYPES, t, 0));
     Place {
         shape,
         id: t + 1,
-        element: word(file, source, TYPES, t, 2),
+        element: file.word(TYPES, t, 2),
     }
 }
 
 // The type is kept only where it has that very shape.
-fn own_type(file: &[u32], source: &[usize], classes: &[u32], s: u32, id: u32) -> u32
-    requires { StartsOf file.now source.now × Accepted file.now × Classes file.now classes.now × (s < Layout.count file.now shapes) × Link (IsType file.now) id }
-    ensures { result ≡ on_link id 0 (λ t. pick (same_shape file.now (type_shape file.now t) s) id 0) }
+fn own_type(file: &File<'_>, classes: &[u32], s: u32, id: u32) -> u32
+    requires { Classes file.now.source classes.now × (s < Layout.count file.now.source shapes) × Link (IsType file.now.source) id }
+    ensures { result ≡ on_link id 0 (λ t. pick (same_shape file.now.source (type_shape file.now.source t) s) id 0) }
 {
     if id == 0 {
         return 0;
     }
-    let own = word(file, source, TYPES, id - 1, 0);
+    let own = file.source.word(TYPES, id - 1, 0);
     if same_shape(file, classes, own, s) {
         return id;
     }
@@ -61,50 +61,42 @@ fn own_type(file: &[u32], source: &[usize], classes: &[u32], s: u32, id: u32) ->
 }
 
 // The element type of the type that a link leads to.
-fn element_of(file: &[u32], source: &[usize], id: u32) -> u32
-    requires { StartsOf file.now source.now }
+fn element_of(file: &Source<'_>, id: u32) -> u32
     ensures { result ≡ on_link id 0 (element_type file.now) }
 {
-    linked_word(file, source, TYPES, id, 2)
+    linked_word(file, TYPES, id, 2)
 }
 
-pub fn typed_place(
-    file: &[u32],
-    source: &[usize],
-    classes: &[u32],
-    s: u32,
-    id: u32,
-    element: u32,
-) -> Place
-    requires { StartsOf file.now source.now × Accepted file.now × Classes file.now classes.now × (s < Layout.count file.now shapes) × Link (IsType file.now) id }
-    ensures { result ≡ typed_place file.now s id element }
+pub fn typed_place(file: &File<'_>, classes: &[u32], s: u32, id: u32, element: u32) -> Place
+    requires { Classes file.now.source classes.now × (s < Layout.count file.now.source shapes) × Link (IsType file.now.source) id }
+    ensures { result ≡ typed_place file.now.source s id element }
 {
-    let own = own_type(file, source, classes, s, id);
-    let other = element_of(file, source, own);
+    let own = own_type(file, classes, s, id);
+    let other = element_of(&file.source, own);
     Place {
-        shape: shape_at(file, source, s),
+        shape: file.source.shape(s),
         id: own,
         element: or_else(element, other),
     }
 }
 
 // An element, of the shape s, of an array.
-pub fn element_place(file: &[u32], source: &[usize], classes: &[u32], place: Place, s: u32) -> Place
-    requires { StartsOf file.now source.now × Accepted file.now × Classes file.now classes.now × PlaceIn file.now place × (s < Layout.count file.now shapes) }
-    ensures { result ≡ element_place file.now place s }
+pub fn element_place(file: &File<'_>, classes: &[u32], place: Place, s: u32) -> Place
+    requires { Classes file.now.source classes.now × PlaceIn file.now.source place × (s < Layout.count file.now.source shapes) }
+    ensures { result ≡ element_place file.now.source place s }
 {
-    let other = element_of(file, source, place.id);
+    let other = element_of(&file.source, place.id);
     let id = or_else(place.element, other);
-    typed_place(file, source, classes, s, id, 0)
+    typed_place(file, classes, s, id, 0)
 }
 
 // What an array of arrays is filled with: an element of its innermost arrays.
-pub fn leaf_place(file: &[u32], source: &[usize], classes: &[u32], place: Place) -> Place
-    requires { StartsOf file.now source.now × Accepted file.now × Classes file.now classes.now × PlaceIn file.now place }
-    ensures { result ≡ leaf_place file.now place }
+pub fn leaf_place(file: &File<'_>, classes: &[u32], place: Place) -> Place
+    requires { Classes file.now.source classes.now × PlaceIn file.now.source place }
+    ensures { result ≡ leaf_place file.now.source place }
 {
     let mut leaf = place;
-    let mut left = count(file, source, SHAPES);
+    let mut left = file.source.count(SHAPES);
     while left > 0 {
         let shape = leaf.shape;
         let Shape::Array {
@@ -115,7 +107,7 @@ pub fn leaf_place(file: &[u32], source: &[usize], classes: &[u32], place: Place)
         else {
             return leaf;
         };
-        leaf = element_place(file, source, classes, leaf, element);
+        leaf = element_place(file, classes, leaf, element);
         left -= 1;
     }
     leaf

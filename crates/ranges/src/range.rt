@@ -1,4 +1,6 @@
 // Whether an integer type or a subrange holds a number (`fits` of value_range.rs), on a sign and a size instead of an i128.
+#![tactic(auto, using(crate::proofs::range::Laws::laws))]
+
 ghost use Rattle.std.specs.Prelude.{◌≡◌, true, eqb};
 ghost use Rattle.std.specs.Int.Signed.{le_z};
 ghost use Rattle.definition.specs.Accept.{is_bits};
@@ -6,7 +8,7 @@ ghost use Rattle.definition.specs.Iec.{in_range, between};
 ghost use Rattle.definition.specs.Scalar.{size_of, value_of};
 ghost use Rattle.ranges.specs.Table.{depth_of};
 
-use crate::table::{Range, for_integer};
+use crate::table::for_integer;
 use definition::records::Constant;
 
 pub fn negative(c: Constant) -> bool
@@ -15,6 +17,7 @@ pub fn negative(c: Constant) -> bool
     c.sign == 1
 }
 
+#[tactic(auto, using(crate::proofs::range::Laws::laws), unfolding(definition::specs::Base::joined, definition::specs::Scalar::size_of))]
 pub fn size(c: Constant) -> u64
     ensures { result ≡ size_of c }
 {
@@ -37,10 +40,11 @@ pub fn fits(c: Constant, bits: u32, signed: bool) -> bool
     requires { is_bits bits ≡ true }
     ensures { result ≡ in_range signed bits (value_of c) }
 {
-    let Range::Between(least, greatest) = for_integer(bits, signed) else {
+    let Some(bounds) = for_integer(bits, signed) else {
         // not reached: the table has these bits
         return false;
     };
+    let (least, greatest) = bounds;
     if negative(c) {
         return size(c) <= depth(least);
     }

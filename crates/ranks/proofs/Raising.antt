@@ -15,21 +15,14 @@ use Rattle.definition.specs.Layout.{word, types, block_fields, elements, variabl
 use Rattle.definition.specs.Records.{alias_base, element_type, referenced_type, declaration_at, named_type}
 use Rattle.definition.specs.Uses.{linked, named_use, initializer_uses, element_uses, variable_uses, block_field_uses, declaration_uses, block_uses, uses, raise, rank_at}
 use Rattle.laws.specs.Ranks.{raise-append}
-use Rattle.ranks.specs.declared.above.RanksIn.{RanksIn}
-use Rattle.ranks.specs.declared.above.RanksIn.TheVariants.{Words, Lines}
 use Rattle.ranks.specs.declared.above.Run.{Run}
 use Rattle.ranks.specs.declared.above.Run.TheVariants.{Elements, Variables, BlockFields}
-use Rattle.ranks.specs.Above.{line_rank, rank_in, used_by, used_in, start_uses, reference_uses, links_of}
+use Rattle.ranks.specs.Above.{rank_in, used_by, used_in, start_uses, reference_uses, links_of}
 
 -- ---- a rank
-module _ (from : RanksIn) (index words : List ℕ) (t : ℕ) {r : ℕ} where
-  pub in_words : from ≡ Words → r ≡ get_or words t 0 → r ≡ rank_in from index words t
-  unfolding rank_in rank_at
-  in_words e h = rw e h
-
-  pub in_lines : from ≡ Lines → {w p : ℕ} → w ≡ get_or index t 0 → p ≡ w - 2 → r ≡ get_or words p 0 → r ≡ rank_in from index words t
-  unfolding rank_in line_rank
-  in_lines e q i h = rw (e, ← q, ← i) h
+pub in_words : (words : List ℕ) (t : ℕ) {r : ℕ} → r ≡ get_or words t 0 → r ≡ rank_in words t
+unfolding rank_at
+in_words words t h = h
 
 -- ---- links
 module _ (rank : ℕ → ℕ) (high : ℕ) where
@@ -89,7 +82,7 @@ module _ (rank : ℕ → ℕ) (high : ℕ) where
       unfolding used_by
       by_field e q h = rw (e, ← q) h
 
-pub ruleset raising = (rules, in_words, in_lines, link-none, link-over, name-none, name-over, initializer-over, start_none, start-over, reference-none, reference-over, by-element, by-variable, by_field)
+pub ruleset raising = (rules, in_words, link-none, link-over, name-none, name-over, initializer-over, start_none, start-over, reference-none, reference-over, by-element, by-variable, by_field)
 
 -- ---- a run
 used-more : (f : List ℕ) (run : Run) (k n : ℕ) → used_in f run k (suc n) ≡ used_in f run k n ++ used_by f run (k + n)
@@ -197,5 +190,5 @@ module _ (rank : ℕ → ℕ) (f : List ℕ) (t : ℕ) where
       → s ≡ raise rank 0 (uses f t)
   type-over h k g = rw (uses-are, raise-append, raise-append, ← h, ← k) g
 
-pub ruleset types-over =
+pub ruleset types_over =
     (rules, of-nothing, of_string, of-unknown, of-simple, of_subrange, of_array, of-structure, of-reference, of_enumeration, of-late, of-block, block-over, links-over, type-over)

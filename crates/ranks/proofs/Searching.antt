@@ -8,18 +8,16 @@ use lib.ListN.{length, get_or, set, replicate}
 use lib.Seq.{get_or-set_same, get_or-set_other}
 use borrow.Author.Count.{below_more}
 use borrow.Author.Rules.{rules}
+use Rattle.std.specs.Prelude.{Ok, Err}
 use Rattle.definition.specs.Answers.{cleared}
 use Rattle.definition.specs.Uses.{uses, raise, rank_at, ranked, circle, ranks_of}
 use Rattle.laws.specs.Accepted.{Accepted, few-types}
 use Rattle.laws.specs.Ranks.{Inside, Round, is-ranking}
 use Rattle.laws.specs.Used.{uses-inside}
-use Rattle.ranks.specs.declared.above.RanksIn.TheVariants as from
-use Rattle.ranks.specs.declared.lowest.Ranked.{Ranked}
-use Rattle.ranks.specs.declared.lowest.Ranked.TheVariants.{Ranks, Circle}
+use Rattle.ranks.specs.declared.lowest.Circle.{Circle}
 use Rattle.ranks.specs.declared.lowest.Next.{Next}
 use Rattle.ranks.specs.declared.lowest.Next.TheVariants as next
-use Rattle.ranks.specs.Above.{rank_in}
-use Rattle.ranks.specs.Lowest.{Found, many, in_progress, unknown, Unknowns, Reached, Upto, total, Tells, TellsOf, Done, Ends}
+use Rattle.ranks.specs.Lowest.{Found, Ranked, many, in_progress, unknown, Unknowns, Reached, Upto, total, Tells, TellsOf, Done, Ends}
 use Rattle.ranks.proofs.Ranking.{unknown-first, none-so-high, Goes, goes-start, goes-next, goes-less, goes-done, upto-start, upto-reached, upto_done, upto_skip, upto_all}
 
 -- ---- words of unknown types
@@ -39,10 +37,6 @@ unknowns-end u h e = record { word = λ t l. u.word t (omega arith) }
 pub ruleset forgetting = (rules, unknowns-start, unknowns-on, unknowns-end)
 
 -- ---- what comes next
-pub words-over : (f index ranks : List ℕ) (t : ℕ) {s : ℕ} → s ≡ raise (rank_in from.Words index ranks) 0 (uses f t) → s ≡ raise (rank_at ranks) 0 (uses f t)
-unfolding rank_in
-words-over f index ranks t h = h
-
 module _ {f : List ℕ} {t : ℕ} {w : List ℕ} (b : Reached f t in_progress w) {r : ℕ} (e : r ≡ raise (rank_at w) 0 (uses f t)) where
   pub tells-rank : r < length w → Tells f t w (next.Rank r)
   tells-rank h = record { tells = (omega (arith, b.words.long), e) }
@@ -59,22 +53,22 @@ module _ {f : List ℕ} {t : ℕ} {w : List ℕ} (b : Reached f t in_progress w)
 pub rank-fits : {f : List ℕ} {t v : ℕ} {w : List ℕ} → Reached f t v w → {r : ℕ} → r < length w → r < 2 ^ 32
 rank-fits b h = omega (arith, b.words.few, b.words.long)
 
-pub ruleset telling = (rules, words-over, rank-fits, tells-rank, first_fits, tells_first, tells-circle)
+pub ruleset telling = (rules, rank-fits, tells-rank, first_fits, tells_first, tells-circle)
 
 -- ---- what an answer says
 module _ {f : List ℕ} {A : Type 0} where
-  pub ends-ranks : {r : Ranked} → Ends f A r → r ≡ Ranks → A
+  pub ends-ranks : {r : Ranked} → Ends f A r → {u : Unit {0}} → r ≡ Ok u → A
   ends-ranks x e = rw e at x.ends
 
-  pub ends-round : {r : Ranked} → Ends f A r → r ≡ Circle → Round (many f) (uses f)
+  pub ends-round : {r : Ranked} → Ends f A r → {c : Circle} → r ≡ Err c → Round (many f) (uses f)
   ends-round x e = rw e at x.ends
 
-  pub ends-passed : {r : Ranked} → Ends f A r → r ≡ Circle → {B : Type 0} → Ends f B r
+  pub ends-passed : {r : Ranked} → Ends f A r → {c : Circle} → r ≡ Err c → {B : Type 0} → Ends f B r
   ends-passed x e = rw e (record { ends = ends-round x e })
 
   pub ends_as : (r : Ranked) → Ends f A r → {B : Type 0} → (A → B) → Ends f B r
-  ends_as Ranks x h = record { ends = h x.ends }
-  ends_as Circle x h = record { ends = x.ends }
+  ends_as (Ok u) x h = record { ends = h x.ends }
+  ends_as (Err c) x h = record { ends = x.ends }
 
 pub tells-of : {f : List ℕ} {t : ℕ} {w : List ℕ} {r : Next} → Tells f t w r → {q : Next} → r ≡ q → TellsOf f t w q
 tells-of x e = rw e at x.tells
@@ -93,20 +87,20 @@ module _ {f : List ℕ} {t : ℕ} {start w : List ℕ} (g : Goes f t start w) wh
   pub type-long : {old : List ℕ} → Reached f t (unknown t) old → (new : List ℕ) → length new ≡ length w → length new ≡ length old
   type-long a new e = omega (arith, g.reached.words.long, a.words.long)
 
-  pub type-on : {u : ℕ} {r : Ranked} {new : List ℕ} → Ends f (Done f u w new) r → r ≡ Ranks → Goes f t start new
+  pub type-on : {u : ℕ} {r : Ranked} {new : List ℕ} → Ends f (Done f u w new) r → {k : Unit {0}} → r ≡ Ok k → Goes f t start new
   type-on x e = goes-next g (ends-ranks x e)
 
-pub type-less : {f : List ℕ} {u : ℕ} {w new : List ℕ} {r : Ranked} → Ends f (Done f u w new) r → r ≡ Ranks → total new < total w
+pub type-less : {f : List ℕ} {u : ℕ} {w new : List ℕ} {r : Ranked} → Ends f (Done f u w new) r → {k : Unit {0}} → r ≡ Ok k → total new < total w
 type-less x e = (ends-ranks x e).less
 
 module _ {f : List ℕ} {t : ℕ} {old : List ℕ} (a : Reached f t (unknown t) old) {w : List ℕ} (g : Goes f t (set old t 1024) w) where
   pub type-falls : {m : ℕ} → total old ≡ m → total w < m
   type-falls e = omega (arith, goes-less a g)
 
-  pub type-ranked : {r : Next} → Tells f t w r → {k : ℕ} → r ≡ next.Rank k → Ends f (Done f t old (set w t k)) Ranks
+  pub type-ranked : {r : Next} → Tells f t w r → {k : ℕ} → r ≡ next.Rank k → Ends f (Done f t old (set w t k)) (Ok tt)
   type-ranked x e = let y = tells-of x e in record { ends = goes-done a g y.0 y.1 }
 
-pub type-circle : {f : List ℕ} {t : ℕ} {w : List ℕ} {r : Next} → Tells f t w r → r ≡ next.Circle → {A : Type 0} → Ends f A Circle
+pub type-circle : {f : List ℕ} {t : ℕ} {w : List ℕ} {r : Next} → Tells f t w r → r ≡ next.Circle → {A : Type 0} {c : Circle} → Ends f A (Err c)
 type-circle x e = record { ends = tells-of x e }
 
 pub ruleset typing = (rules, goes-start, type-room, type-first, type-reached, type-long, type-on, type-less, type-falls, type-ranked, type-circle, ends-passed)
@@ -120,7 +114,7 @@ module _ {f : List ℕ} {t : ℕ} {w : List ℕ} (i : Upto f t w) (l : t < lengt
   unfolding rank_at
   next-reached h = upto-reached i next-inside h
 
-  pub next-skips : get_or w t 0 < 2048 → Ends f (Upto f (t + 1) w) Ranks
+  pub next-skips : get_or w t 0 < 2048 → Ends f (Upto f (t + 1) w) (Ok tt)
   unfolding rank_at
   next-skips h = record { ends = upto_skip i next-inside h }
 
@@ -143,10 +137,10 @@ module _ {f : List ℕ} {t : ℕ} {w : List ℕ} (i : Upto f t w) where
   pub all-long : {s : ℕ} {v : List ℕ} → Upto f s v → length v ≡ length w
   all-long j = omega (arith, i.words.long, j.words.long)
 
-  pub all-ranked : {n : ℕ} → n ≡ many f → n ≤ t → Ends f (Upto f (many f) w) Ranks
+  pub all-ranked : {n : ℕ} → n ≡ many f → n ≤ t → Ends f (Upto f (many f) w) (Ok tt)
   all-ranked e l = record { ends = record { words = i.words; idle = i.idle; low = λ s j k. i.low s (omega arith) k } }
 
-pub all-on : {f : List ℕ} {t : ℕ} {w : List ℕ} {r : Ranked} → Ends f (Upto f t w) r → r ≡ Ranks → Upto f t w
+pub all-on : {f : List ℕ} {t : ℕ} {w : List ℕ} {r : Ranked} → Ends f (Upto f t w) r → {u : Unit {0}} → r ≡ Ok u → Upto f t w
 all-on x e = ends-ranks x e
 
 pub ruleset everything = (rules, all_fit, all_room, all-many, all-long, all-on, all-ranked, ends-passed)
@@ -166,15 +160,15 @@ module _ {f : List ℕ} (a : Accepted f) where
       (record { word = λ t k. u.word t (omega arith) })
 
   module _ {r : Ranked} {w : List ℕ} (x : Ends f (Upto f (many f) w) r) where
-    pub answer-ranks : r ≡ Ranks → {n : ℕ} → Found (ranks_of f) n r w
+    pub answer-ranks : {u : Unit {0}} → r ≡ Ok u → {n : ℕ} → Found (ranks_of f) n (Ok tt) w
     unfolding ranks_of
     answer-ranks e =
         let y : Upto f (many f) w = ends-ranks x e in
-        rw (e, ← is-ranking (many f) (uses f) inside (ranked w) (y.words.long, upto_all y)) (record { says = refl; wrote = refl })
+        rw (← is-ranking (many f) (uses f) inside (ranked w) (y.words.long, upto_all y)) (record { says = refl; wrote = refl })
 
-    pub answer-circle : r ≡ Circle → {m n : ℕ} → length w ≡ m → m ≡ n → {new : List ℕ} → new ≡ cleared w → Found (ranks_of f) n r new
+    pub answer-circle : {c : Circle} → r ≡ Err c → {m n : ℕ} → length w ≡ m → m ≡ n → {new : List ℕ} → new ≡ cleared w → Found (ranks_of f) n (Err c) new
     unfolding ranks_of cleared
     answer-circle e l k q =
-        rw (e, ← is-ranking (many f) (uses f) inside circle (ends-round x e)) (record { says = refl; wrote = q ∙ ap (λ (k : ℕ). replicate k 0) (l ∙ k) })
+        rw (← is-ranking (many f) (uses f) inside circle (ends-round x e)) (record { says = refl; wrote = q ∙ ap (λ (k : ℕ). replicate k 0) (l ∙ k) })
 
 pub ruleset answering = (rules, answer-few, answer-start, answer-ranks, answer-circle)

@@ -1,21 +1,15 @@
 -- Where ranks stand, and the uses of a type in the order of the code.
-use Rattle.std.specs.Prelude.{List, [], ◌++◌, ℕ, zero, suc, ◌-◌, eqb, get_or}
+use Rattle.std.specs.Prelude.{List, [], ◌++◌, ℕ, zero, suc, eqb}
 use Rattle.definition.specs.Base.{pick, on_link}
 use Rattle.definition.specs.Layout.{word, block_fields, elements, variables}
 use Rattle.definition.specs.Records.{alias_base, element_type, referenced_type}
 use Rattle.definition.specs.Uses.{linked, initializer_uses, rank_at}
-use Rattle.ranks.specs.declared.above.RanksIn.{RanksIn}
-use Rattle.ranks.specs.declared.above.RanksIn.TheVariants.{Words, Lines}
 use Rattle.ranks.specs.declared.above.Run.{Run}
 use Rattle.ranks.specs.declared.above.Run.TheVariants.{Elements, Variables, BlockFields}
 
--- the rank at the head of a type's line, to which a word of the index leads
-unfoldable pub line_rank : List ℕ → List ℕ → ℕ → ℕ
-line_rank index sheet t = get_or sheet (get_or index t 0 - 2) 0
-
-unfoldable pub rank_in : RanksIn → List ℕ → List ℕ → ℕ → ℕ
-rank_in Words index words = rank_at words
-rank_in Lines index words = line_rank index words
+-- words hold each type's rank at its number
+abbrev pub rank_in : List ℕ → ℕ → ℕ
+rank_in words = rank_at words
 
 -- what a record of a run uses
 unfoldable pub used_by : List ℕ → Run → ℕ → List ℕ

@@ -1,26 +1,25 @@
 // The lowest ranks that rise along every use, or that there are none because uses run in a circle (refusal 9).
 // A type is ranked after all that it uses. A look at its uses ends with its rank, or with the ranking of another type: two looks for each type at most.
+#![tactic(auto, using(crate::proofs::Searching::typing))]
+
 ghost use Rattle.std.specs.Prelude.{◌≡◌, ◌+◌, ◌<◌, ◌≤◌, length};
 ghost use Rattle.definition.specs.Layout as Layout;
 ghost use Rattle.definition.specs.Uses.{ranks_of};
-ghost use Rattle.laws.specs.Accepted.{Accepted};
-ghost use Rattle.records.specs.Starts.{StartsOf};
 ghost use Rattle.ranks.specs.Lowest.{Found, many, in_progress, unknown, Unknowns, Reached, Upto, Tells, Done, Ends};
 
-use crate::above::{RanksIn, raised};
+use crate::above::raised;
 use lines::clear::clear;
+use records::file::File;
+use records::source::Source;
 
 // The word of a type is UNKNOWN and its number, then IN_PROGRESS, then its rank, which is lower than both.
 const IN_PROGRESS: u32 = 1024;
 
 const UNKNOWN: u32 = 2048;
 
-// The words hold the ranks, or there are none and the words are 0.
+// There are no ranks: uses run in a circle.
 #[derive(Clone, Copy)]
-pub enum Ranked {
-    Ranks,
-    Circle,
-}
+pub struct Circle;
 
 // What the words of the types that a type uses say of its own.
 #[derive(Clone, Copy)]
@@ -31,25 +30,24 @@ pub enum Next {
 }
 
 // No type is known.
+#[tactic(auto, using(crate::proofs::Searching::forgetting))]
 fn forget(ranks: &mut [u32])
     requires { length ranks.old ≤ in_progress }
     ensures { Unknowns (length ranks.old) ranks.new }
 {
-    let mut i: usize = 0;
-    while i < ranks.len() {
+    for i in 0..ranks.len() {
         ranks[i] = UNKNOWN + i as u32;
-        i += 1;
     }
 }
 
 // The highest word of the used types decides: a type that is unknown has to be ranked first.
 // Uses run in a circle where one is in progress, or where the rank would be as high as there are types.
-fn next_of(file: &[u32], source: &[usize], ranks: &[u32], t: u32) -> Next
-    requires { StartsOf file.now source.now × Reached file.now t in_progress ranks.now }
+#[tactic(auto, using(crate::proofs::Searching::telling))]
+fn next_of(file: &Source<'_>, ranks: &[u32], t: u32) -> Next
+    requires { Reached file.now t in_progress ranks.now }
     ensures { Tells file.now t ranks.now result }
 {
-    // Words have no index: the file stands in its place, unread.
-    let high = raised(file, source, RanksIn::Words, file, ranks, t);
+    let high = raised(file, ranks, t);
     if high < ranks.len() {
         return Next::Rank(high as u32);
     }
@@ -60,66 +58,60 @@ fn next_of(file: &[u32], source: &[usize], ranks: &[u32], t: u32) -> Next
 }
 
 // An unknown type is ranked, behind all that it uses.
-fn rank_type(file: &[u32], source: &[usize], ranks: &mut [u32], t: u32) -> Ranked
-    requires { StartsOf file.now source.now × Reached file.now t (unknown t) ranks.old }
+fn rank_type(file: &Source<'_>, ranks: &mut [u32], t: u32) -> Result<(), Circle>
+    requires { Reached file.now t (unknown t) ranks.old }
     ensures { Ends file.now (Done file.now t ranks.old ranks.new) result }
 {
     ranks[t as usize] = IN_PROGRESS;
     loop {
-        let told = next_of(file, source, &ranks[..], t);
-        match told {
+        match next_of(file, &ranks[..], t) {
             Next::Rank(r) => {
                 ranks[t as usize] = r;
-                return Ranked::Ranks;
+                return Ok(());
             }
-            Next::First(u) => {
-                let ranked = rank_type(file, source, ranks, u);
-                match ranked {
-                    Ranked::Ranks => {}
-                    Ranked::Circle => return ranked,
-                }
-            }
-            Next::Circle => return Ranked::Circle,
+            Next::First(u) => rank_type(file, ranks, u)?,
+            Next::Circle => return Err(Circle),
         }
     }
 }
 
 // The next type, which is ranked already if a type before it led to it.
-fn rank_next(file: &[u32], source: &[usize], ranks: &mut [u32], t: u32) -> Ranked
-    requires { StartsOf file.now source.now × Upto file.now t ranks.old × (t < length ranks.old) }
+#[tactic(auto, using(crate::proofs::Searching::nexts))]
+fn rank_next(file: &Source<'_>, ranks: &mut [u32], t: u32) -> Result<(), Circle>
+    requires { Upto file.now t ranks.old × (t < length ranks.old) }
     ensures { Ends file.now (Upto file.now (t + 1) ranks.new) result }
 {
     if ranks[t as usize] < UNKNOWN {
-        return Ranked::Ranks;
+        return Ok(());
     }
-    rank_type(file, source, ranks, t)
+    rank_type(file, ranks, t)
 }
 
 // All types, in rising number.
-fn rank_all(file: &[u32], source: &[usize], ranks: &mut [u32]) -> Ranked
-    requires { StartsOf file.now source.now × Upto file.now 0 ranks.old }
+#[tactic(auto, using(crate::proofs::Searching::everything))]
+fn rank_all(file: &Source<'_>, ranks: &mut [u32]) -> Result<(), Circle>
+    requires { Upto file.now 0 ranks.old }
     ensures { Ends file.now (Upto file.now (many file.now) ranks.new) result }
 {
     let many = ranks.len() as u32;
     for t in 0..many {
-        let ranked = rank_next(file, source, ranks, t);
-        match ranked {
-            Ranked::Ranks => {}
-            Ranked::Circle => return ranked,
-        }
+        rank_next(file, ranks, t)?;
     }
-    Ranked::Ranks
+    Ok(())
 }
 
-pub fn lowest_ranks(file: &[u32], source: &[usize], ranks: &mut [u32]) -> Ranked
-    requires { StartsOf file.now source.now × Accepted file.now × (length ranks.old ≡ Layout.count file.now Layout.types) }
-    ensures { Found (ranks_of file.now) (length ranks.old) result ranks.new }
+// The words hold the ranks, or there are none and the words are 0.
+#[tactic(auto, using(crate::proofs::Searching::answering))]
+pub fn lowest_ranks(file: &File<'_>, ranks: &mut [u32]) -> Result<(), Circle>
+    requires { (length ranks.old ≡ Layout.count file.now.source Layout.types) }
+    ensures { Found (ranks_of file.now.source) (length ranks.old) result ranks.new }
 {
     forget(ranks);
-    let ranked = rank_all(file, source, ranks);
-    match ranked {
-        Ranked::Ranks => {}
-        Ranked::Circle => clear(ranks),
+    match rank_all(&file.source, ranks) {
+        Ok(()) => Ok(()),
+        Err(circle) => {
+            clear(ranks);
+            Err(circle)
+        }
     }
-    ranked
 }

@@ -1,29 +1,21 @@
 // Whether ranks rise along every use (refusal 12).
+#![tactic(auto, using(crate::proofs::Tests::tests))]
+
 ghost use Rattle.std.specs.Prelude.{◌≡◌};
 ghost use Rattle.definition.specs.Layout as Layout;
 ghost use Rattle.definition.specs.Uses.{uses, rising};
-ghost use Rattle.records.specs.Starts.{StartsOf};
 ghost use Rattle.ranks.specs.Above.{rank_in};
 
-use crate::above::{RanksIn, raised, rank_in};
+use crate::above::{raised, rank_in};
 use definition::layout::TYPES;
-use records::words::count;
+use records::source::Source;
 
-pub fn ranks_rise(
-    file: &[u32],
-    source: &[usize],
-    from: RanksIn,
-    index: &[u32],
-    words: &[u32],
-) -> bool
-    requires { StartsOf file.now source.now }
-    ensures { result ≡ rising (Layout.count file.now Layout.types) (uses file.now) (rank_in from index.now words.now) }
+pub fn ranks_rise(file: &Source<'_>, words: &[u32]) -> bool
+    ensures { result ≡ rising (Layout.count file.now Layout.types) (uses file.now) (rank_in words.now) }
 {
-    let many = count(file, source, TYPES);
+    let many = file.count(TYPES);
     for t in 0..many {
-        let wanted = raised(file, source, from, index, words, t);
-        let own = rank_in(from, index, words, t) as usize;
-        if wanted > own {
+        if raised(file, words, t) > rank_in(words, t) as usize {
             return false;
         }
     }

@@ -1,4 +1,6 @@
 // 64 bits as 32: rounded once to the nearest value of binary32, ties to even.
+#![tactic(auto, using(crate::proofs::narrow::Nearest::laws))]
+
 ghost use Rattle.std.specs.Prelude.{◌≡◌, false, ◌+◌, ◌^◌, ◌<◌};
 ghost use Rattle.std.specs.Float.Ieee.Nearest.{closest};
 ghost use Rattle.memory_definition.specs.Numbers.{narrowed};
@@ -29,6 +31,7 @@ fn rounded(size: u64, below: u64) -> u64
 
 // Below the field 897 the values are the multiples of the smallest one. From there on the leading digit adds 1 to the field, or 2 where it was rounded up to the next
 // power; what comes to the infinity's bits or above is the infinity.
+#[tactic(auto, using(crate::proofs::narrow::Single::laws))]
 fn magnitude(exp: u64, mant: u64) -> u64
     requires { Fields exp mant }
     ensures { result ≡ single false exp mant }
@@ -48,6 +51,7 @@ fn magnitude(exp: u64, mant: u64) -> u64
 }
 
 // A NaN is written as the definition has it, without a sign.
+#[tactic(auto, using(crate::proofs::narrow::Laws::laws))]
 pub fn narrow(bits: u64) -> u32
     ensures { result ≡ narrowed bits }
 {

@@ -1,4 +1,6 @@
 // 32 bits as 64: every value of binary32 is one of binary64.
+#![tactic(auto, using(crate::proofs::widen::Laws::laws))]
+
 ghost use Rattle.std.specs.Prelude.{◌≡◌};
 ghost use Rattle.memory_definition.specs.Numbers.{widened};
 

@@ -31,20 +31,15 @@ module _ {g : ℕ → ℕ} {n : ℕ} {lent words : List ℕ} (i : Filled g n len
   all-filled m h l = let e : m ≡ n = omega arith in rw e i
 
 -- ---- words that were 0, filled and then set to 0 again
-zeros : (n : ℕ) → table_of (λ k. 0) n ≡ replicate n 0
-unfolding table_of
-zeros zero = refl
-zeros (suc n) = rw (zeros n, replicate-append-replicate {A = ℕ} n 1 0) (ap (λ (k : ℕ). replicate k 0) (add-one n))
-
-zeros-back : (n rest : ℕ) → table_of (λ k. 0) n ++ drop n (replicate (n + rest) 0) ≡ replicate (n + rest) 0
+zeros-back : (n rest : ℕ) → replicate {A = ℕ} n 0 ++ drop n (replicate (n + rest) 0) ≡ replicate (n + rest) 0
 zeros-back n rest =
-    rw (zeros n, ← replicate-append-replicate {A = ℕ} n rest 0, drop_at {A = ℕ} (replicate n 0) (replicate rest 0) n (length-replicate n 0))
+    rw (← replicate-append-replicate {A = ℕ} n rest 0, drop_at {A = ℕ} (replicate n 0) (replicate rest 0) n (length-replicate n 0))
 
-pub filled-again : {g : ℕ → ℕ} {n : ℕ} {lent words last : List ℕ} → Filled g n lent words → Filled (λ k. 0) n words last → lent ≡ replicate (length lent) 0 → last ≡ lent
-filled-again {g} {n} {lent} {words} {last} i j z =
+pub zeroed-again : {g : ℕ → ℕ} {n : ℕ} {lent words last : List ℕ} → Filled g n lent words → last ≡ replicate {A = ℕ} n 0 ++ drop n words → lent ≡ replicate (length lent) 0 → last ≡ lent
+zeroed-again {g} {n} {lent} {words} {last} i j z =
     let e : n + (length lent - n) ≡ length lent = omega (arith, i.room) in
     let d : drop n words ≡ drop n lent = ap (drop n) i.is ∙ drop_at (table_of g n) (drop n lent) n (table-length g n) in
-    let b : table_of (λ k. 0) n ++ drop n (replicate (length lent) 0) ≡ replicate (length lent) 0 = rw e at (zeros-back n (length lent - n)) in
-    j.is ∙ rw d (rw z b)
+    let b : replicate {A = ℕ} n 0 ++ drop n (replicate (length lent) 0) ≡ replicate (length lent) 0 = rw e at (zeros-back n (length lent - n)) in
+    j ∙ rw d (rw z b)
 
 pub ruleset filling = (rules, none_filled, one-filled, all-filled)

@@ -1,5 +1,7 @@
+pub mod Declaring
 pub mod Filling
 pub mod Links
 pub mod Listed
+pub mod Ranging
 pub mod Scanning
 pub mod Starting

@@ -35,7 +35,7 @@ pub words_of : (most n s : ℕ) → n ≤ most → n * record_words s ≤ most *
 words_of most n s l = mul-le-mul l (words-most s)
 
 module _ (f : List ℕ) where
-  pub first-start : StartsTo f (replicate 16 0) 0
+  pub first-start : StartsTo f (replicate 15 0) 0
   unfolding count_at
   first-start =
       record {

@@ -1,9 +1,8 @@
 // One record as a value: its words, and which value they give.
 ghost use Rattle.std.specs.Prelude.{◌≡◌};
 ghost use Rattle.definition.specs.Records.{shape_of, shape_at, declaration_of, declaration_at, initializer_of, initializer_at, entry_of, entry_at, expression_of, expression_at, constant_at};
-ghost use Rattle.records.specs.Starts.{StartsOf};
 
-use crate::words::word;
+use crate::source::Source;
 use definition::layout::{CONSTANTS, ENTRIES, EXPRESSIONS, INITIALIZERS, SHAPES, TYPES};
 use definition::records::{Constant, Declaration, Entry, Expression, Initializer, Shape};
 
@@ -48,16 +47,18 @@ pub fn shape_of(kind: u32, a: u32, b: u32, c: u32, d: u32) -> Shape
     }
 }
 
-pub fn shape_at(file: &[u32], source: &[usize], n: u32) -> Shape
-    requires { StartsOf file.now source.now }
-    ensures { result ≡ shape_at file.now n }
-{
-    let kind = word(file, source, SHAPES, n, 0);
-    let a = word(file, source, SHAPES, n, 1);
-    let b = word(file, source, SHAPES, n, 2);
-    let c = word(file, source, SHAPES, n, 3);
-    let d = word(file, source, SHAPES, n, 4);
-    shape_of(kind, a, b, c, d)
+impl<'a> Source<'a> {
+    #[tactic(auto, unfolding(definition::specs::Records::shape_at))]
+    pub fn shape(&self, n: u32) -> Shape
+        ensures { result ≡ shape_at self.now n }
+    {
+        let kind = self.word(SHAPES, n, 0);
+        let a = self.word(SHAPES, n, 1);
+        let b = self.word(SHAPES, n, 2);
+        let c = self.word(SHAPES, n, 3);
+        let d = self.word(SHAPES, n, 4);
+        shape_of(kind, a, b, c, d)
+    }
 }
 
 fn declaration_of(kind: u32, named: u32, start: u32, first: u32, many: u32) -> Declaration
@@ -82,16 +83,18 @@ fn declaration_of(kind: u32, named: u32, start: u32, first: u32, many: u32) -> D
     }
 }
 
-pub fn declaration_at(file: &[u32], source: &[usize], t: u32) -> Declaration
-    requires { StartsOf file.now source.now }
-    ensures { result ≡ declaration_at file.now t }
-{
-    let kind = word(file, source, TYPES, t, 4);
-    let named = word(file, source, TYPES, t, 5);
-    let start = word(file, source, TYPES, t, 6);
-    let first = word(file, source, TYPES, t, 7);
-    let many = word(file, source, TYPES, t, 8);
-    declaration_of(kind, named, start, first, many)
+impl<'a> Source<'a> {
+    #[tactic(auto, unfolding(definition::specs::Records::declaration_at, definition::specs::Records::declaration_kind))]
+    pub fn declaration(&self, t: u32) -> Declaration
+        ensures { result ≡ declaration_at self.now t }
+    {
+        let kind = self.word(TYPES, t, 4);
+        let named = self.word(TYPES, t, 5);
+        let start = self.word(TYPES, t, 6);
+        let first = self.word(TYPES, t, 7);
+        let many = self.word(TYPES, t, 8);
+        declaration_of(kind, named, start, first, many)
+    }
 }
 
 fn initializer_of(
@@ -128,17 +131,19 @@ fn initializer_of(
     }
 }
 
-pub fn initializer_at(file: &[u32], source: &[usize], i: u32) -> Initializer
-    requires { StartsOf file.now source.now }
-    ensures { result ≡ initializer_at file.now i }
-{
-    let kind = word(file, source, INITIALIZERS, i, 0);
-    let value = word(file, source, INITIALIZERS, i, 3);
-    let first = word(file, source, INITIALIZERS, i, 4);
-    let many = word(file, source, INITIALIZERS, i, 5);
-    let length = word(file, source, INITIALIZERS, i, 6);
-    let width = word(file, source, INITIALIZERS, i, 7);
-    initializer_of(kind, value, first, many, length, width)
+impl<'a> Source<'a> {
+    #[tactic(auto, unfolding(definition::specs::Records::initializer_at, definition::specs::Records::initializer_kind))]
+    pub fn initializer(&self, i: u32) -> Initializer
+        ensures { result ≡ initializer_at self.now i }
+    {
+        let kind = self.word(INITIALIZERS, i, 0);
+        let value = self.word(INITIALIZERS, i, 3);
+        let first = self.word(INITIALIZERS, i, 4);
+        let many = self.word(INITIALIZERS, i, 5);
+        let length = self.word(INITIALIZERS, i, 6);
+        let width = self.word(INITIALIZERS, i, 7);
+        initializer_of(kind, value, first, many, length, width)
+    }
 }
 
 fn entry_of(kind: u32, a: u32, b: u32) -> Entry
@@ -159,14 +164,16 @@ fn entry_of(kind: u32, a: u32, b: u32) -> Entry
     }
 }
 
-pub fn entry_at(file: &[u32], source: &[usize], e: u32) -> Entry
-    requires { StartsOf file.now source.now }
-    ensures { result ≡ entry_at file.now e }
-{
-    let kind = word(file, source, ENTRIES, e, 0);
-    let a = word(file, source, ENTRIES, e, 2);
-    let b = word(file, source, ENTRIES, e, 3);
-    entry_of(kind, a, b)
+impl<'a> Source<'a> {
+    #[tactic(auto, unfolding(definition::specs::Records::entry_at))]
+    pub fn entry(&self, e: u32) -> Entry
+        ensures { result ≡ entry_at self.now e }
+    {
+        let kind = self.word(ENTRIES, e, 0);
+        let a = self.word(ENTRIES, e, 2);
+        let b = self.word(ENTRIES, e, 3);
+        entry_of(kind, a, b)
+    }
 }
 
 fn expression_of(kind: u32, a: u32) -> Expression
@@ -184,24 +191,28 @@ fn expression_of(kind: u32, a: u32) -> Expression
     }
 }
 
-pub fn expression_at(file: &[u32], source: &[usize], x: u32) -> Expression
-    requires { StartsOf file.now source.now }
-    ensures { result ≡ expression_at file.now x }
-{
-    let kind = word(file, source, EXPRESSIONS, x, 0);
-    let a = word(file, source, EXPRESSIONS, x, 1);
-    expression_of(kind, a)
+impl<'a> Source<'a> {
+    #[tactic(auto, unfolding(definition::specs::Records::expression_at))]
+    pub fn expression(&self, x: u32) -> Expression
+        ensures { result ≡ expression_at self.now x }
+    {
+        let kind = self.word(EXPRESSIONS, x, 0);
+        let a = self.word(EXPRESSIONS, x, 1);
+        expression_of(kind, a)
+    }
 }
 
-pub fn constant_at(file: &[u32], source: &[usize], c: u32) -> Constant
-    requires { StartsOf file.now source.now }
-    ensures { result ≡ constant_at file.now c }
-{
-    Constant {
-        kind: word(file, source, CONSTANTS, c, 0),
-        sign: word(file, source, CONSTANTS, c, 1),
-        low: word(file, source, CONSTANTS, c, 2),
-        high: word(file, source, CONSTANTS, c, 3),
-        width: word(file, source, CONSTANTS, c, 4),
+impl<'a> Source<'a> {
+    #[tactic(auto, unfolding(definition::specs::Records::constant_at, definition::specs::Records::constant_of))]
+    pub fn constant(&self, c: u32) -> Constant
+        ensures { result ≡ constant_at self.now c }
+    {
+        Constant {
+            kind: self.word(CONSTANTS, c, 0),
+            sign: self.word(CONSTANTS, c, 1),
+            low: self.word(CONSTANTS, c, 2),
+            high: self.word(CONSTANTS, c, 3),
+            width: self.word(CONSTANTS, c, 4),
+        }
     }
 }

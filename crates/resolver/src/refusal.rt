@@ -1,42 +1,44 @@
 // What is refused before an answer is worked out.
-ghost use Rattle.std.specs.Prelude.{◌≡◌, ◌<◌, ltb};
-ghost use Rattle.definition.specs.Layout as Layout;
-ghost use Rattle.definition.specs.Answers.{enough, refused_tree};
-ghost use Rattle.laws.specs.Accepted.{Accepted};
-ghost use Rattle.records.specs.Starts.{StartsOf};
+#![tactic(auto, using(crate::proofs::Answering::refusing))]
 
-use acceptance::accept::accept;
+ghost use Rattle.std.specs.Prelude.{◌≡◌, ◌<◌, ltb, MatchResult};
+ghost use Rattle.definition.specs.Layout as Layout;
+ghost use Rattle.definition.specs.Answers.{number_of, enough, refused_tree};
+
+use acceptance::accept::accepted;
 use acceptance::work::{lines_of, room_of};
-use definition::answers::Acceptance;
-use records::words::{count, find_sections};
+use definition::answers::Refusal;
+use records::file::File;
 
 // Whether there are enough work words.
-fn is_enough(file: &[u32], source: &[usize], lines: usize, room: usize) -> bool
-    requires { StartsOf file.now source.now × Accepted file.now }
-    ensures { result ≡ enough file.now lines room }
+fn is_enough(file: &File<'_>, lines: usize, room: usize) -> bool
+    ensures { result ≡ enough file.now.source lines room }
 {
-    if lines < lines_of(file, source) {
+    if lines < lines_of(file) {
         return false;
     }
-    room_of(file, source) <= room
+    room_of(file) <= room
 }
 
-// Refusals 1 to 7, and 10 for too few work words; 0 for none.
-pub fn refusal(file: &[u32], section: usize, number: u32, lines: usize, room: usize) -> u32
+// The accepted file, where it has the asked record and there are enough work words; else refusals 1 to 7, or 10.
+pub fn admitted(
+    words: &[u32],
+    section: usize,
+    number: u32,
+    lines: usize,
+    room: usize,
+) -> Result<File<'_>, Refusal>
     requires { section < 14 }
-    ensures { result ≡ refused_tree file.now (ltb number (Layout.count file.now section)) lines room }
+    ensures { MatchResult result
+        (λ file. (file.source ≡ words.now) × (refused_tree words.now (ltb number (Layout.count words.now section)) lines room ≡ 0))
+        (λ refusal. number_of refusal ≡ refused_tree words.now (ltb number (Layout.count words.now section)) lines room) }
 {
-    match accept(file) {
-        Acceptance::Accepted => {
-            let source = find_sections(file);
-            if number >= count(file, &source, section) {
-                return 7;
-            }
-            if is_enough(file, &source, lines, room) {
-                return 0;
-            }
-            10
-        }
-        Acceptance::Refused(n) => n,
+    let file = accepted(words)?;
+    if number >= file.source.count(section) {
+        return Err(Refusal::Missing);
     }
+    if is_enough(&file, lines, room) {
+        return Ok(file);
+    }
+    Err(Refusal::Short)
 }

@@ -1,5 +1,5 @@
 // An integer as a REAL or an LREAL: rounded once to the nearest value, ties to even, and given as the bits of an f64 (the Rust's `as f64` and `as f32`).
-#![tactic(auto)]
+#![tactic(auto, using(crate::proofs::Laws::laws))]
 
 ghost use Rattle.std.specs.Prelude.{◌≡◌, ◌^◌, false, to_bits};
 ghost use Rattle.std.specs.Float.{binary32, binary64};
@@ -17,6 +17,7 @@ pub fn lreal(size: u64) -> u64
 }
 
 // The 24 highest of 64 bits, rounded by the highest bit below them and by whether any bit below that is set.
+#[tactic(auto, using(crate::proofs::Nearest::laws))]
 fn highest(bits: u64) -> u64
     ensures { result ≡ closest bits (2 ^ 40) }
 {
@@ -33,6 +34,7 @@ fn highest(bits: u64) -> u64
 }
 
 // The exponent's field is one too small: the highest bit kept adds 1 to it, and 2 where it was rounded up to the next power.
+#[tactic(auto, using(crate::proofs::Single::laws))]
 pub fn real(size: u64) -> u64
     ensures { result ≡ to_bits binary64 (round binary32 false size 1) }
 {

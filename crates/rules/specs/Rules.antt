@@ -1,21 +1,11 @@
 -- Parts of the definition's rules that the code has functions for.
-use Rattle.std.specs.Prelude.{Bool, true, false, ◌&&◌, List, [], ◌∷◌, ℕ, ltb, get_or}
-use Rattle.definition.specs.Layout.{shapes, shape_fields, types, initializers, word}
-use Rattle.definition.specs.Accept.{array_entry, member_entry, number_in, link_in, declaration_points, value_points, plain_rules, point_rules}
-use Rattle.rules.specs.declared.runs.Rule.{Rule}
-use Rattle.rules.specs.declared.runs.Rule.TheVariants.{FieldBelow, ArrayEntry, MemberEntry}
-use Rattle.rules.specs.declared.scan.Scan.{Scan}
-use Rattle.rules.specs.declared.scan.Scan.TheVariants.{Words, Points}
+use Rattle.std.specs.Prelude.{Bool, true, false, ◌&&◌, List, [], ◌∷◌, ℕ, get_or}
+use Rattle.definition.specs.Layout.{shapes, types, initializers, word}
+use Rattle.definition.specs.Accept.{number_in, link_in, declaration_points, value_points, plain_rules, point_rules}
 
 -- the kinds of entries that stand in arrays
 unfoldable pub array_kind : ℕ → Bool
 array_kind kind = get_or (true ∷ true ∷ false ∷ true ∷ true ∷ false ∷ true ∷ []) kind false
-
--- the rules that the records of a run have to meet, by name
-unfoldable pub meets : List ℕ → Rule → ℕ → Bool
-meets f (FieldBelow shape) = λ k. ltb (word f shape_fields k 1) shape
-meets f ArrayEntry = array_entry f
-meets f MemberEntry = member_entry f
 
 -- the parts of a type's and an initializer's rule
 unfoldable pub type_links : List ℕ → ℕ → Bool
@@ -34,7 +24,3 @@ plain_rule f s = get_or (plain_rules f) s (λ n. false)
 
 unfoldable pub point_rule : List ℕ → ℕ → ℕ → Bool
 point_rule f s = get_or (point_rules f) s (λ n. false)
-
-unfoldable pub rule_of : List ℕ → Scan → ℕ → ℕ → Bool
-rule_of f Words = plain_rule f
-rule_of f Points = point_rule f

@@ -1,22 +1,16 @@
 // Refusal 4, second part: runs whose every record meets a rule, and where entries may stand.
-ghost use Rattle.std.specs.Prelude.{◌≡◌, true, false, ◌&&◌, ◌<◌, ltb};
+#![tactic(auto, using(crate::proofs::Running::running))]
+
+ghost use Rattle.std.specs.Prelude.{◌≡◌, true, false, ◌&&◌, ◌||◌, ◌+◌, ◌==◌, ltb, leb};
+ghost use Rattle.definition.specs.Layout as Layout;
+ghost use Rattle.definition.specs.Layout.{shape_fields, entries};
 ghost use Rattle.definition.specs.Accept as Accept;
-ghost use Rattle.records.specs.Starts.{StartsOf};
 ghost use Rattle.rules.specs.Rules as Rules;
 
 use crate::inside::run_in;
 use definition::layout::{ENTRIES, SHAPE_FIELDS};
 use plain::words::is_name;
-use records::words::word;
-
-// What every record of a run has to meet.
-#[derive(Clone, Copy)]
-pub enum Rule {
-    // a shape field whose shape is lower
-    FieldBelow { shape: u32 },
-    ArrayEntry,
-    MemberEntry,
-}
+use records::source::Source;
 
 // Kinds 2 and 5 stand only in member lists.
 fn array_kind(kind: u32) -> bool
@@ -34,78 +28,71 @@ fn array_kind(kind: u32) -> bool
     }
 }
 
-fn array_entry(file: &[u32], source: &[usize], e: u32) -> bool
-    requires { StartsOf file.now source.now }
+#[tactic(auto, using(crate::proofs::Running::running), unfolding(crate::specs::Rules::array_kind, definition::specs::Accept::array_entry))]
+fn array_entry(file: &Source<'_>, e: u32) -> bool
     ensures { result ≡ Accept.array_entry file.now e }
 {
-    (word(file, source, ENTRIES, e, 1) == 0) & array_kind(word(file, source, ENTRIES, e, 0))
+    (file.word(ENTRIES, e, 1) == 0) & array_kind(file.word(ENTRIES, e, 0))
 }
 
 // Kind 6 stands only in arrays; member lists take named entries only.
-fn member_entry(file: &[u32], source: &[usize], e: u32) -> bool
-    requires { StartsOf file.now source.now }
+#[tactic(auto, using(crate::proofs::Running::running), unfolding(definition::specs::Accept::member_entry))]
+fn member_entry(file: &Source<'_>, e: u32) -> bool
     ensures { result ≡ Accept.member_entry file.now e }
 {
-    is_name(word(file, source, ENTRIES, e, 1)) & (word(file, source, ENTRIES, e, 0) <= 5)
+    is_name(file.word(ENTRIES, e, 1)) & (file.word(ENTRIES, e, 0) <= 5)
 }
 
-fn meets(file: &[u32], source: &[usize], rule: Rule, n: u32) -> bool
-    requires { StartsOf file.now source.now }
-    ensures { result ≡ Rules.meets file.now rule n }
+// A run of shape fields, each of a shape below one.
+pub fn fields_below(file: &Source<'_>, shape: u32, first: u32, many: u32) -> bool
+    ensures { result ≡ Accept.run_of file.now shape_fields (λ k. ltb (Layout.word file.now shape_fields k 1) shape) first many }
 {
-    match rule {
-        Rule::FieldBelow { shape } => word(file, source, SHAPE_FIELDS, n, 1) < shape,
-        Rule::ArrayEntry => array_entry(file, source, n),
-        Rule::MemberEntry => member_entry(file, source, n),
-    }
-}
-
-// A run inside its section, each of whose records meets a rule.
-pub fn run_of(
-    file: &[u32],
-    source: &[usize],
-    section: usize,
-    rule: Rule,
-    first: u32,
-    many: u32,
-) -> bool
-    requires { StartsOf file.now source.now × (section < 14) }
-    ensures { result ≡ Accept.run_of file.now section (Rules.meets file.now rule) first many }
-{
-    if !run_in(file, source, section, first, many) {
+    if !run_in(file, SHAPE_FIELDS, first, many) {
         return false;
     }
-    for j in 0..many {
-        if !meets(file, source, rule, first + j) {
-            return false;
-        }
+    (0..many).all(|j| file.word(SHAPE_FIELDS, first + j, 1) < shape)
+}
+
+// A run of an array's entries.
+pub fn array_run(file: &Source<'_>, first: u32, many: u32) -> bool
+    ensures { result ≡ Accept.run_of file.now entries (Accept.array_entry file.now) first many }
+{
+    if !run_in(file, ENTRIES, first, many) {
+        return false;
     }
-    true
+    (0..many).all(|j| array_entry(file, first + j))
+}
+
+// A run of a member list's entries.
+pub fn member_run(file: &Source<'_>, first: u32, many: u32) -> bool
+    ensures { result ≡ Accept.run_of file.now entries (Accept.member_entry file.now) first many }
+{
+    if !run_in(file, ENTRIES, first, many) {
+        return false;
+    }
+    (0..many).all(|j| member_entry(file, first + j))
 }
 
 // Entries point only to lower entries; an empty run points at none.
-pub fn lower_run(file: &[u32], source: &[usize], e: u32, rule: Rule, first: u32, many: u32) -> bool
-    requires { StartsOf file.now source.now }
-    ensures { result ≡ Accept.lower_run file.now e (Rules.meets file.now rule) first many }
+pub fn run_below(e: u32, first: u32, many: u32) -> bool
+    ensures { result ≡ leb (first + many) e || (many == 0) }
 {
-    run_of(file, source, ENTRIES, rule, first, many)
-        & (((first as u64) + (many as u64) <= (e as u64)) | (many == 0))
+    ((first as u64) + (many as u64) <= (e as u64)) | (many == 0)
 }
 
-fn lower_array_entry(file: &[u32], source: &[usize], e: u32, i: u32) -> bool
-    requires { StartsOf file.now source.now }
+fn lower_array_entry(file: &Source<'_>, e: u32, i: u32) -> bool
     ensures { result ≡ ltb i e && Accept.array_entry file.now i }
 {
-    (i < e) & array_entry(file, source, i)
+    (i < e) & array_entry(file, i)
 }
 
 // A repeat's inner entry.
-pub fn link_to_lower(file: &[u32], source: &[usize], e: u32, link: u32) -> bool
-    requires { StartsOf file.now source.now }
+#[tactic(auto, using(records::proofs::Links::links))]
+pub fn link_to_lower(file: &Source<'_>, e: u32, link: u32) -> bool
     ensures { result ≡ Accept.link_to (λ i. ltb i e && Accept.array_entry file.now i) link }
 {
     if link == 0 {
         return true;
     }
-    lower_array_entry(file, source, e, link - 1)
+    lower_array_entry(file, e, link - 1)
 }

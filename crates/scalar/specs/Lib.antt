@@ -1,4 +1,3 @@
-pub mod Node
 pub mod String
 pub mod Convert
 pub mod Default

@@ -7,12 +7,6 @@ use Rattle.definition.specs.Layout.{word, settings}
 use Rattle.definition.specs.Records.{constant_of}
 use Rattle.definition.specs.Ask.{Result, ok, none}
 use Rattle.definition.specs.Scalar.{max_length, on_result, cut_string, as_tree, empty_string}
-use Rattle.scalar.specs.declared.string.MaxLength.{MaxLength}
-use Rattle.scalar.specs.declared.string.MaxLength.TheVariants as most
-
-abbrev pub length_of : MaxLength → Result ℕ
-length_of (most.Most n) = ok n
-length_of most.None = none
 
 unfoldable pub max_length_by : ℕ → ℕ → Result ℕ
 max_length_by setting zero = ok setting

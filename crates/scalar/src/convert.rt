@@ -1,26 +1,29 @@
 // A constant as a literal of the kind that a place stores, or none where the place cannot hold it (`convert` of scalar.rs).
+#![tactic(auto, using(crate::proofs::convert::Laws::arms))]
+
 ghost use Rattle.std.specs.Prelude.{◌≡◌, ◌&&◌, ◌||◌, eqb, leb};
 ghost use Rattle.definition.specs.declared.records.Shape.TheVariants as shape;
 ghost use Rattle.definition.specs.Scalar as scalar;
 ghost use Rattle.laws.specs.Bits.{Bits};
-ghost use Rattle.scalar.specs.Node.{result_of};
+ghost use Rattle.definition.specs.Ask.{result_of};
 ghost use Rattle.scalar.specs.Convert.{as_string_by, converted_by, Counts};
 
-use crate::node::Leaf;
 use crate::string::cut_string;
 use definition::records::{Constant, Shape};
 use ranges::range::{fits, negative, size, within};
 use rounding::rounded;
 
-fn kept(test: bool, c: Constant) -> Leaf
+#[tactic(auto, using(crate::proofs::convert::Laws::laws))]
+fn kept(test: bool, c: Constant) -> Option<Constant>
     ensures { result_of result ≡ scalar.kept test c }
 {
     if test {
-        return Leaf::Value(c);
+        return Some(c);
     }
-    Leaf::None
+    None
 }
 
+#[tactic(auto, using(crate::proofs::convert::Laws::laws))]
 fn is_bit(c: Constant) -> bool
     ensures { result ≡ scalar.is_integer c && eqb c.sign 0 && leb (scalar.size_of c) 1 }
 {
@@ -33,11 +36,12 @@ fn is_bit(c: Constant) -> bool
 }
 
 // BOOL takes the integers 0 and 1, which become FALSE and TRUE, and booleans: no bit string.
-fn as_bool(c: Constant) -> Leaf
+#[tactic(auto, using(crate::proofs::convert::Laws::laws))]
+fn as_bool(c: Constant) -> Option<Constant>
     ensures { result_of result ≡ scalar.as_bool c }
 {
     if is_bit(c) {
-        return Leaf::Value(Constant {
+        return Some(Constant {
             kind: 0,
             sign: 0,
             low: c.low,
@@ -48,6 +52,7 @@ fn as_bool(c: Constant) -> Leaf
     kept(c.kind == 0, c)
 }
 
+#[tactic(auto, using(crate::proofs::convert::Laws::laws))]
 fn is_whole(c: Constant) -> bool
     ensures { result ≡ scalar.is_integer c || eqb c.kind 2 }
 {
@@ -58,22 +63,24 @@ fn is_whole(c: Constant) -> bool
 }
 
 // Integers and bit strings stay what they are.
-fn as_integer(test: bool, c: Constant) -> Leaf
+#[tactic(auto, using(crate::proofs::convert::Laws::laws))]
+fn as_integer(test: bool, c: Constant) -> Option<Constant>
     ensures { result_of result ≡ scalar.kept ((scalar.is_integer c || eqb c.kind 2) && test) c }
 {
     if is_whole(c) {
         return kept(test, c);
     }
-    Leaf::None
+    None
 }
 
 // REAL literals are kept bit for bit, integers are rounded.
-fn as_real(bits: u32, c: Constant) -> Leaf
+#[tactic(auto, using(crate::proofs::convert::Laws::laws))]
+fn as_real(bits: u32, c: Constant) -> Option<Constant>
     ensures { result_of result ≡ scalar.as_real bits c }
 {
     if c.kind == 1 {
         let r = rounded(bits, negative(c), size(c));
-        return Leaf::Value(Constant {
+        return Some(Constant {
             kind: 3,
             sign: 0,
             low: (r & 0xffff_ffff) as u32,
@@ -85,28 +92,36 @@ fn as_real(bits: u32, c: Constant) -> Leaf
 }
 
 // A time or a date takes only its own kind.
-fn as_count(kind: u32, test: bool, c: Constant) -> Leaf
+#[tactic(auto, using(crate::proofs::convert::Laws::laws))]
+fn as_count(kind: u32, test: bool, c: Constant) -> Option<Constant>
     ensures { result_of result ≡ scalar.kept (eqb c.kind kind && test) c }
 {
     if c.kind == kind {
         return kept(test, c);
     }
-    Leaf::None
+    None
 }
 
-fn as_string(length: u32, width: u32, c: Constant, setting: u32) -> Leaf
+#[tactic(auto, using(crate::proofs::convert::Laws::laws))]
+fn as_string(length: u32, width: u32, c: Constant, setting: u32) -> Option<Constant>
     requires { Counts (shape.String length width) c }
     ensures { result_of result ≡ as_string_by setting length width c }
 {
     if c.kind == 8 {
         return cut_string(length, width, c.low, c.high, setting);
     }
-    Leaf::None
+    None
 }
 
 // The two bounds are a subrange's constants, and the setting is the default string length: other shapes look at none of them.
 // A duration can be negative, the calendar kinds count up from their epoch.
-pub fn convert(shape: Shape, c: Constant, least: Constant, greatest: Constant, setting: u32) -> Leaf
+pub fn convert(
+    shape: Shape,
+    c: Constant,
+    least: Constant,
+    greatest: Constant,
+    setting: u32,
+) -> Option<Constant>
     requires { Bits shape × Counts shape c }
     ensures { result_of result ≡ converted_by shape c least greatest setting }
 {
@@ -121,8 +136,8 @@ pub fn convert(shape: Shape, c: Constant, least: Constant, greatest: Constant, s
         Shape::TimeOfDay { bits } => as_count(5, fits(c, bits, false), c),
         Shape::DateAndTime { bits } => as_count(7, fits(c, bits, false), c),
         Shape::String { length, width } => as_string(length, width, c, setting),
-        Shape::Enumeration { .. } => Leaf::None,
+        Shape::Enumeration { .. } => None,
         Shape::Subrange { .. } => as_integer(within(c, least, greatest), c),
-        _ => Leaf::None,
+        _ => None,
     }
 }

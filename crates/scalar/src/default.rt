@@ -1,12 +1,14 @@
 // The value that a shape without parts starts with when nothing declares one (`implicit_default` of scalar.rs, and `implicit` of resolver.rs for strings and references).
+#![tactic(auto, using(crate::proofs::default::Laws::laws))]
+
 ghost use Rattle.std.specs.Prelude.{◌≡◌};
 ghost use Rattle.definition.specs.Ask.{ok};
 ghost use Rattle.definition.specs.Scalar as scalar;
 ghost use Rattle.definition.specs.Scalar.{as_tree};
-ghost use Rattle.scalar.specs.Node.{result_of};
+ghost use Rattle.definition.specs.Ask.{result_of};
 ghost use Rattle.scalar.specs.Default.{implicit_by};
 
-use crate::node::{Leaf, enumerated, null};
+use crate::node::{enumerated, null};
 use crate::string::cut_string;
 use definition::records::{Constant, Shape};
 
@@ -20,10 +22,10 @@ fn long(bits: u32) -> u32
     0
 }
 
-fn zero_of(kind: u32, width: u32) -> Leaf
+fn zero_of(kind: u32, width: u32) -> Option<Constant>
     ensures { as_tree (result_of result) ≡ scalar.zero_of kind width }
 {
-    Leaf::Value(Constant {
+    Some(Constant {
         kind,
         sign: 0,
         low: 0,
@@ -32,10 +34,10 @@ fn zero_of(kind: u32, width: u32) -> Leaf
     })
 }
 
-fn as_integer(c: Constant) -> Leaf
+fn as_integer(c: Constant) -> Option<Constant>
     ensures { as_tree (result_of result) ≡ ok (scalar.as_integer_tree c) }
 {
-    Leaf::Value(Constant {
+    Some(Constant {
         kind: 1,
         sign: c.sign,
         low: c.low,
@@ -45,7 +47,12 @@ fn as_integer(c: Constant) -> Leaf
 }
 
 // Least is a subrange's lower constant, member the name at an enumeration's default place, and setting the default string length: other shapes look at none of them.
-pub fn implicit_default(shape: Shape, least: Constant, member: u32, setting: u32) -> Leaf
+pub fn implicit_default(
+    shape: Shape,
+    least: Constant,
+    member: u32,
+    setting: u32,
+) -> Option<Constant>
     ensures { as_tree (result_of result) ≡ implicit_by shape least member setting }
 {
     match shape {
@@ -66,12 +73,12 @@ pub fn implicit_default(shape: Shape, least: Constant, member: u32, setting: u32
             underlying: _,
         } => {
             if default < count {
-                return Leaf::Value(enumerated(member, 0));
+                return Some(enumerated(member, 0));
             }
-            Leaf::None
+            None
         }
         Shape::Subrange { .. } => as_integer(least),
-        Shape::Reference { .. } => Leaf::Value(null()),
-        _ => Leaf::None,
+        Shape::Reference { .. } => Some(null()),
+        _ => None,
     }
 }

@@ -4,13 +4,6 @@ ghost use Rattle.definition.specs.Tree.{flatten, constant_tree, enumerated_tree,
 
 use definition::records::Constant;
 
-// What a place's node holds behind its name, or none.
-#[derive(Clone, Copy)]
-pub enum Leaf {
-    Value(Constant),
-    None,
-}
-
 // A node's six words. Its name is set where it becomes a field.
 pub fn node(c: Constant) -> [u32; 6]
     ensures { result ≡ flatten (constant_tree c) }

@@ -1,38 +1,23 @@
 // The string leaf (`string_value` and `max_length` of resolver.rs): a literal's characters are a run of the Characters section, cut to what the place holds.
-ghost use Rattle.std.specs.Prelude.{◌≡◌, min, take, drop};
-ghost use Rattle.scalar.specs.Node.{result_of};
-ghost use Rattle.scalar.specs.String.{length_of, max_length_by, cut_by, string_of, Countable};
+#![tactic(auto, using(crate::proofs::string::Laws::laws))]
 
-use crate::node::Leaf;
+ghost use Rattle.std.specs.Prelude.{◌≡◌, min, take, drop};
+ghost use Rattle.definition.specs.Ask.{result_of};
+ghost use Rattle.scalar.specs.String.{max_length_by, cut_by, string_of, Countable};
+
 use definition::records::Constant;
 
-// The most characters that a string holds, or none for a length that no string may have.
-#[derive(Clone, Copy)]
-pub enum MaxLength {
-    Most(u32),
-    None,
-}
-
-// Length is 1 plus the declared one, or 0, where the setting decides.
-pub fn max_length(length: u32, setting: u32) -> MaxLength
-    ensures { length_of result ≡ max_length_by setting length }
+// The most characters that a string holds, or none for a length that no string may have. Length is 1 plus the declared one, or 0, where the setting decides.
+pub fn max_length(length: u32, setting: u32) -> Option<u32>
+    ensures { result_of result ≡ max_length_by setting length }
 {
     if length == 0 {
-        return MaxLength::Most(setting);
+        return Some(setting);
     }
     if length - 1 <= 65535 {
-        return MaxLength::Most(length - 1);
+        return Some(length - 1);
     }
-    MaxLength::None
-}
-
-fn fewer(a: u32, b: u32) -> u32
-    ensures { result ≡ min a b }
-{
-    if a <= b {
-        return a;
-    }
-    b
+    None
 }
 
 // A run as a constant with its last word: without characters it begins at 0.
@@ -53,15 +38,15 @@ pub fn string_constant(first: u32, count: u32, last: u32) -> Constant
 }
 
 // A literal's run in a place of some length and width. The last word has the width and, doubled, the characters that are cut.
-pub fn cut_string(length: u32, width: u32, first: u32, count: u32, setting: u32) -> Leaf
+pub fn cut_string(length: u32, width: u32, first: u32, count: u32, setting: u32) -> Option<Constant>
     requires { Countable width count }
     ensures { result_of result ≡ cut_by setting length width first count }
 {
-    let MaxLength::Most(most) = max_length(length, setting) else {
-        return Leaf::None;
+    let Some(most) = max_length(length, setting) else {
+        return None;
     };
-    let held = fewer(count, most);
-    Leaf::Value(string_constant(first, held, width + 2 * (count - held)))
+    let held = count.min(most);
+    Some(string_constant(first, held, width + 2 * (count - held)))
 }
 
 // The characters themselves, as a part of the section. Of a run that leaves the section this is what lies in it.
@@ -69,7 +54,7 @@ pub fn string_value(characters: &[u32], first: u32, count: u32, most: u32) -> &[
     ensures { result.now ≡ take (min count most) (drop first characters.now) }
 {
     let from = first as usize;
-    let to = from + fewer(count, most) as usize;
+    let to = from + count.min(most) as usize;
     if to <= characters.len() {
         return &characters[from..to];
     }

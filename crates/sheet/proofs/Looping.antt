@@ -12,9 +12,8 @@ use mir.Val.{Fits}
 use Rattle.definition.specs.Base.{every}
 use Rattle.definition.specs.Layout.{count, types, variables}
 use Rattle.records.proofs.Scanning.{Passed, none_yet, passes, all-counted, fails-counted}
-use Rattle.tree.specs.declared.extent.Extent.TheVariants.{Ends}
 use Rattle.sheet_lines.specs.declared.ends.Form.TheVariants as form
-use Rattle.sheet_lines.specs.declared.find.Lines.TheVariants as lines
+use Rattle.sheet_lines.specs.declared.find.Lines.{Lines}
 use Rattle.sheet_lines.specs.Ends.{line_end}
 use Rattle.sheet_lines.specs.Found.{found_of}
 use Rattle.sheet_lines.specs.Judged.{type_at, variable_at, completed_at, type_same, variable_same, completed_same, types_right, variables_right}
@@ -25,6 +24,7 @@ use Rattle.sheet_lines.proofs.Placed.{found_at, types-end, variables-end, comple
 use Rattle.sheet_lines.proofs.Shapes.{line-there, line-next}
 use Rattle.sheet.specs.Checks.{Checks}
 use Rattle.sheet.proofs.Telling.{checks-kept}
+use Rattle.std.specs.Prelude.{Some}
 
 -- ---- types
 -- t lines are the same, and the next is at a place
@@ -38,14 +38,14 @@ pub typing-starts : {f : List ℕ} (s : List ℕ) {many : ℕ} → many ≡ coun
 typing-starts {f} s e = record { most = omega arith; all = e; ends = no_lines form.Types s 1; so_far = none_yet (type_same f s) }
 
 module _ {f s : List ℕ} {many t at : ℕ} (x : Typing f s many t at) where
-  pub typing-there : t < many → {source known : List ℕ} {room : ℕ} → Checks f source known s room → LineThere form.Types s at
+  pub typing-there : t < many → {known : List ℕ} {room : ℕ} → Checks f known s room → LineThere form.Types s at
   typing-there h g =
-      line-there x.ends (record { there = types-end (found_at f s g.second g.third g.comparable.found) }) (omega (arith, x.all))
+      line-there x.ends (record { there = types-end (found_at f s g.lines g.comparable.found) }) (omega (arith, x.all))
 
   pub typing-type : t < many → t < count f types
   typing-type h = omega (arith, x.all)
 
-  module _ {e : ℕ} (q : line_end form.Types s at ≡ Ends e) {b : Bool} (p : b ≡ type_at f s t at e) where
+  module _ {e : ℕ} (q : line_end form.Types s at ≡ Some e) {b : Bool} (p : b ≡ type_at f s t at e) where
     type-here : b ≡ type_same f s t
     type-here = p ∙ sym (type-same-at f x.ends q)
 
@@ -82,48 +82,48 @@ unfolding pair_same variables_right
 pairs-right f s v c = sym (every_two (variable_same f s v) (completed_same f s c) (count f variables))
 
 -- u variables' lines are the same, and their next lines are at two places
-pub record Pairing (f s : List ℕ) (v c many u at from : ℕ) : Type 0 where
+pub record Pairing (f s : List ℕ) (x : Lines) (many u at from : ℕ) : Type 0 where
   pub most : u ≤ many
   pub all : many ≡ count f variables
-  pub found : found_of f s ≡ lines.Found v c
-  pub ends : EndsAt form.Variables s (v + 1) u at
-  pub others : EndsAt form.Completed s (c + 1) u from
-  pub so_far : Passed (pair_same f s v c) u
+  pub found : found_of f s ≡ Some x
+  pub ends : EndsAt form.Variables s (x.variables + 1) u at
+  pub others : EndsAt form.Completed s (x.completed + 1) u from
+  pub so_far : Passed (pair_same f s x.variables x.completed) u
 
-module _ (f s : List ℕ) {v c : ℕ} (i : found_of f s ≡ lines.Found v c) where
-  pub pairing-starts : {many : ℕ} → many ≡ count f variables → Pairing f s v c many 0 (v + 1) (c + 1)
+module _ (f s : List ℕ) {x : Lines} (i : found_of f s ≡ Some x) where
+  pub pairing-starts : {many : ℕ} → many ≡ count f variables → Pairing f s x many 0 (x.variables + 1) (x.completed + 1)
   pairing-starts e =
       record {
         most = omega arith;
         all = e;
         found = i;
-        ends = no_lines form.Variables s (v + 1);
-        others = no_lines form.Completed s (c + 1);
-        so_far = none_yet (pair_same f s v c);
+        ends = no_lines form.Variables s (x.variables + 1);
+        others = no_lines form.Completed s (x.completed + 1);
+        so_far = none_yet (pair_same f s x.variables x.completed);
       }
 
-  pub second_fits : length s < 2 ^ 64 → Fits w64 (v + 1)
-  second_fits h = record { fits = omega (arith, (found_at f s v c i).variables_there.inside) }
+  pub second_fits : length s < 2 ^ 64 → Fits w64 (x.variables + 1)
+  second_fits h = record { fits = omega (arith, (found_at f s x i).variables_there.inside) }
 
-  pub third-fits : length s < 2 ^ 64 → Fits w64 (c + 1)
-  third-fits h = record { fits = omega (arith, (found_at f s v c i).completed_there.inside) }
+  pub third-fits : length s < 2 ^ 64 → Fits w64 (x.completed + 1)
+  third-fits h = record { fits = omega (arith, (found_at f s x i).completed_there.inside) }
 
-module _ {f s : List ℕ} {v c many u at from : ℕ} (x : Pairing f s v c many u at from) where
+module _ {f s : List ℕ} {l : Lines} {many u at from : ℕ} (x : Pairing f s l many u at from) where
   pub pairing-there : u < many → LineThere form.Variables s at
-  pairing-there h = line-there x.ends (record { there = variables-end (found_at f s v c x.found) }) (omega (arith, x.all))
+  pairing-there h = line-there x.ends (record { there = variables-end (found_at f s l x.found) }) (omega (arith, x.all))
 
   pub pairing-other : u < many → LineThere form.Completed s from
-  pairing-other h = line-there x.others (record { there = completed-end (found_at f s v c x.found) }) (omega (arith, x.all))
+  pairing-other h = line-there x.others (record { there = completed-end (found_at f s l x.found) }) (omega (arith, x.all))
 
   pub pairing-variable : u < many → u < count f variables
   pairing-variable h = omega (arith, x.all)
 
-  module _ {e : ℕ} (q : line_end form.Variables s at ≡ Ends e) {d : ℕ} (z : line_end form.Completed s from ≡ Ends d) {b : Bool} (p : b ≡ variable_at f s u at e && completed_at f s u from d) where
-    pair-here : b ≡ pair_same f s v c u
+  module _ {e : ℕ} (q : line_end form.Variables s at ≡ Some e) {d : ℕ} (z : line_end form.Completed s from ≡ Some d) {b : Bool} (p : b ≡ variable_at f s u at e && completed_at f s u from d) where
+    pair-here : b ≡ pair_same f s l.variables l.completed u
     unfolding pair_same
-    pair-here = rw (variable-same-at f v x.ends q, completed-same-at f c x.others z) p
+    pair-here = rw (variable-same-at f l.variables x.ends q, completed-same-at f l.completed x.others z) p
 
-    pub pairing-on : u < many → b ≡ true → Pairing f s v c many (u + 1) e d
+    pub pairing-on : u < many → b ≡ true → Pairing f s l many (u + 1) e d
     pairing-on h r =
         record {
           most = omega arith;
@@ -134,10 +134,10 @@ module _ {f s : List ℕ} {v c many u at from : ℕ} (x : Pairing f s v c many u
           so_far = passes x.so_far pair-here r;
         }
 
-    pub pairing-stops : u < many → b ≡ false → false ≡ variables_right f s v c
-    pairing-stops h r = fails-counted x.so_far h x.all pair-here r ∙ pairs-right f s v c
+    pub pairing-stops : u < many → b ≡ false → false ≡ variables_right f s l.variables l.completed
+    pairing-stops h r = fails-counted x.so_far h x.all pair-here r ∙ pairs-right f s l.variables l.completed
 
-  pub pairing-all : many ≤ u → true ≡ variables_right f s v c
-  pairing-all h = all-counted x.so_far h x.most x.all ∙ pairs-right f s v c
+  pub pairing-all : many ≤ u → true ≡ variables_right f s l.variables l.completed
+  pairing-all h = all-counted x.so_far h x.most x.all ∙ pairs-right f s l.variables l.completed
 
 pub ruleset pairing = (rules, not-true, not-false, checks-kept, pairing-starts, second_fits, third-fits, pairing-there, pairing-other, pairing-variable, pairing-on, pairing-stops, pairing-all)

@@ -22,8 +22,6 @@ use Rattle.laws.specs.Values.{Small}
 use Rattle.laws.specs.Peeking.{look-to}
 use Rattle.laws.specs.Falling.{declaration-asks}
 use Rattle.laws.specs.Demand.{falls}
-use Rattle.records.specs.Starts.{StartsOf}
-use Rattle.tree.specs.declared.extent.Extent.TheVariants.{Ends}
 use Rattle.build.specs.declared.built.Built.{Built}
 use Rattle.build.specs.Built.{Gives, Memory, Builds, Ready}
 use Rattle.driver.specs.Told.{Tells}
@@ -41,23 +39,22 @@ use Rattle.sheet_lines.proofs.Remembering.{sheet_memo, sheet-long, said-small}
 use Rattle.sheet_lines.proofs.Testing.{comparable-remembers}
 use Rattle.sheet.specs.Checks.{Checks}
 use Rattle.sheet.specs.Same.{Shown, SameOutcome, SameCompleted}
+use Rattle.std.specs.Prelude.{Some}
 
-pub rank-fits : (s : List ℕ) (at end : ℕ) → line_end form.Types s at ≡ Ends end → length s < 2 ^ 64 → Fits w64 (at + 1)
+pub rank-fits : (s : List ℕ) (at end : ℕ) → line_end form.Types s at ≡ Some end → length s < 2 ^ 64 → Fits w64 (at + 1)
 rank-fits s at end q h = let w = type-in s at end q in record { fits = omega (arith, w.starts, w.inside) }
 
-module _ {f source known s : List ℕ} {room : ℕ} (x : Checks f source known s room) where
-  found : FoundAt f s x.second x.third
-  found = found_at f s x.second x.third x.comparable.found
+module _ {f known s : List ℕ} {room : ℕ} (x : Checks f known s room) where
+  found : FoundAt f s x.lines.variables x.lines.completed
+  found = found_at f s x.lines x.comparable.found
 
   memory : Memory f known s (sheet_memo s (count f types))
   memory = record { remembers = comparable-remembers x.comparable; all = omega (arith, sheet-long s (count f types)) }
 
   -- ---- what the functions that are called want
-  pub checks-ready : Ready f source known s
+  pub checks-ready : Ready f known s
   checks-ready =
       record {
-        starts = x.given.starts;
-        declared = x.given.declared;
         accepted = x.given.accepted;
         classed = x.given.classed;
         tables = omega (arith, x.given.tables);
@@ -65,18 +62,15 @@ module _ {f source known s : List ℕ} {room : ℕ} (x : Checks f source known s
         memory = memory;
       }
 
-  pub checks-starts : StartsOf f source
-  checks-starts = x.given.starts
-
-  pub checks-kept : {more : ℕ} → more ≡ room → Checks f source known s more
+  pub checks-kept : {more : ℕ} → more ≡ room → Checks f known s more
   checks-kept {more} e =
-      record { given = settling.given-kept x.given (front_same known) more e; accepted = x.accepted; second = x.second; third = x.third; comparable = x.comparable }
+      record { given = settling.given-kept x.given (front_same known) more e; accepted = x.accepted; lines = x.lines; comparable = x.comparable }
 
   pub checks-roomy : {more : ℕ} → more ≡ room → room_words f ≤ more
   checks-roomy e = omega (arith, x.given.roomy)
 
   -- ---- what is built
-  rises : rising (count f types) (uses f) (sheet_rank (sheet_at f s x.second x.third)) ≡ true
+  rises : rising (count f types) (uses f) (sheet_rank (sheet_at f s x.lines.variables x.lines.completed)) ≡ true
   unfolding ranks_rise
   rises = x.comparable.rises
 
@@ -84,7 +78,7 @@ module _ {f source known s : List ℕ} {room : ℕ} (x : Checks f source known s
     type-small : OnOk Small (look (said_by s) (body f t))
     type-small =
         look-to _ (λ d o. OnOk Small o) (OnOk Small) (said_by s) (λ d p. said-small found x.comparable.small d p.0) (body f t)
-        (falls f x.accepted (sheet_rank (sheet_at f s x.second x.third)) rises t l)
+        (falls f x.accepted (sheet_rank (sheet_at f s x.lines.variables x.lines.completed)) rises t l)
 
     module _ {old : List ℕ} {b : Built} {new : List ℕ} (y : Builds f known s flatten (body f t) 0 old b new) where
       type-tells : Tells (look (said_by s) (body f t)) b new
@@ -135,4 +129,4 @@ module _ {f source known s : List ℕ} {room : ℕ} (x : Checks f source known s
         pub variable-says : p ≡ true → {from stop : ℕ} {r : Bool} → SameCompleted f v s from stop b new r → r ≡ variable_at f s v at end && completed_at f s v from stop
         variable-says e w = rw (sym variable-is ∙ e) (completed-is w)
 
-pub ruleset telling = (rules, not-true, not-false, type-in, variable-in, completed-in, rank-fits, checks-ready, checks-starts, checks-roomy, type-shown, type-says, variable-shown, variable-stops, variable-says)
+pub ruleset telling = (rules, not-true, not-false, type-in, variable-in, completed-in, rank-fits, checks-ready, checks-roomy, type-shown, type-says, variable-shown, variable-stops, variable-says)

@@ -3,12 +3,11 @@ use Rattle.std.specs.Prelude.{◌≡◌, List, ℕ}
 use Rattle.definition.specs.Accept.{verdict}
 use Rattle.build.specs.Built.{index_in}
 use Rattle.driver.specs.Driver.{Given}
+use Rattle.sheet_lines.specs.declared.find.Lines.{Lines}
 use Rattle.sheet_lines.specs.Tests.{Comparable}
 
--- `second` and `third`: where the counts of these sections stand
-pub record Checks (f source known s : List ℕ) (room : ℕ) : Type 0 where
-  pub given : Given f source known room
+pub record Checks (f known s : List ℕ) (room : ℕ) : Type 0 where
+  pub given : Given f known room
   pub accepted : verdict f ≡ 0
-  pub second : ℕ
-  pub third : ℕ
-  pub comparable : Comparable f s second third (index_in known)
+  pub lines : Lines
+  pub comparable : Comparable f s lines (index_in known)

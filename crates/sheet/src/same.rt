@@ -1,6 +1,7 @@
 // One line, compared with what was built at the front of the room.
+#![tactic(auto, using(crate::proofs::Matching::matching))]
+
 ghost use Rattle.std.specs.Prelude.{length};
-ghost use Rattle.records.specs.Starts.{StartsOf};
 ghost use Rattle.sheet_lines.specs.Compare.{Within};
 ghost use Rattle.sheet.specs.Same.{Shown, SameOutcome, SameCompleted};
 
@@ -8,6 +9,7 @@ use build::built::Built;
 use complete::answer::Completion;
 use complete::completion::completion;
 use definition::layout::NODE_WORDS;
+use records::source::Source;
 use sheet_lines::compare::{completed_same, outcome_same};
 
 // Whether words of a sheet are the state, the count and the nodes of what was built: a type's line behind its rank, or a variable's.
@@ -27,9 +29,9 @@ pub fn built_same(sheet: &[u32], at: usize, end: usize, built: Built, room: &[u3
 }
 
 // Whether words of a sheet are the completed line of a variable that was built, which is completed in place.
+#[tactic(auto, using(crate::proofs::Matching::completing))]
 pub fn completion_same(
-    file: &[u32],
-    source: &[usize],
+    file: &Source<'_>,
     v: u32,
     sheet: &[u32],
     at: usize,
@@ -37,13 +39,13 @@ pub fn completion_same(
     built: Built,
     room: &mut [u32],
 ) -> bool
-    requires { StartsOf file.now source.now × Within (length sheet.now) at 3 end × Shown built room.old }
+    requires { Within (length sheet.now) at 3 end × Shown built room.old }
     ensures { SameCompleted file.now v sheet.now at end built room.old result }
 {
     match built {
         Built::Ends(e) => {
             let nodes = (e / NODE_WORDS) as u32;
-            match completion(file, source, v, room, 0, e) {
+            match completion(file, v, room, 0, e) {
                 Completion::Completed(kind) => {
                     completed_same(sheet, at, end, 0, kind, nodes, &room[..])
                 }

@@ -1,7 +1,9 @@
 // The type lines of a sheet, each compared with what its type's declaration and the other type lines give.
+#![tactic(auto, using(crate::proofs::Looping::typing))]
+
 ghost use Rattle.std.specs.Prelude.{◌≡◌, ◌<◌, length};
 ghost use Rattle.definition.specs.Layout as Layout;
-ghost use Rattle.tree.specs.declared.extent.Extent.TheVariants as extent;
+ghost use Rattle.std.specs.Prelude.{Some};
 ghost use Rattle.sheet_lines.specs.declared.ends.Form.TheVariants as form;
 ghost use Rattle.sheet_lines.specs.Ends.{line_end};
 ghost use Rattle.sheet.specs.Checks.{Checks};
@@ -10,14 +12,14 @@ ghost use Rattle.sheet_lines.specs.Judged.{type_at, types_right};
 use crate::same::built_same;
 use definition::layout::TYPES;
 use driver::work::work_out;
-use records::words::count;
+use records::file::File;
 use sheet_lines::ends::Form;
 use sheet_lines::next::next_line;
 
 // One type's line.
+#[tactic(auto, using(crate::proofs::Telling::telling))]
 fn type_same(
-    file: &[u32],
-    source: &[usize],
+    file: &File<'_>,
     known: &[u32],
     sheet: &[u32],
     t: u32,
@@ -25,28 +27,22 @@ fn type_same(
     end: usize,
     room: &mut [u32],
 ) -> bool
-    requires { Checks file.now source.now known.now sheet.now (length room.old) × (t < Layout.count file.now Layout.types) × (line_end form.Types sheet.now at ≡ extent.Ends end) }
-    ensures { result ≡ type_at file.now sheet.now t at end }
+    requires { Checks file.now.source known.now sheet.now (length room.old) × (t < Layout.count file.now.source Layout.types) × (line_end form.Types sheet.now at ≡ Some end) }
+    ensures { result ≡ type_at file.now.source sheet.now t at end }
 {
-    let built = work_out(file, source, known, sheet, t, room);
+    let built = work_out(file, known, sheet, t, room);
     built_same(sheet, at + 1, end, built, &room[..])
 }
 
-pub fn types_right(
-    file: &[u32],
-    source: &[usize],
-    known: &[u32],
-    sheet: &[u32],
-    room: &mut [u32],
-) -> bool
-    requires { Checks file.now source.now known.now sheet.now (length room.old) }
-    ensures { result ≡ types_right file.now sheet.now }
+pub fn types_right(file: &File<'_>, known: &[u32], sheet: &[u32], room: &mut [u32]) -> bool
+    requires { Checks file.now.source known.now sheet.now (length room.old) }
+    ensures { result ≡ types_right file.now.source sheet.now }
 {
-    let many = count(file, source, TYPES);
+    let many = file.source.count(TYPES);
     let mut at: usize = 1;
     for t in 0..many {
         let end = next_line(sheet, Form::Types, at);
-        if !type_same(file, source, known, sheet, t, at, end, room) {
+        if !type_same(file, known, sheet, t, at, end, room) {
             return false;
         }
         at = end;

@@ -1,9 +1,10 @@
 // The variable lines and the completed lines of a sheet, in step: a variable's tree is built once, compared, completed in place and compared again.
+#![tactic(auto, using(crate::proofs::Looping::pairing))]
+
 ghost use Rattle.std.specs.Prelude.{◌≡◌, ◌&&◌, ◌<◌, length};
 ghost use Rattle.definition.specs.Layout as Layout;
-ghost use Rattle.tree.specs.declared.extent.Extent.TheVariants as extent;
+ghost use Rattle.std.specs.Prelude.{Some};
 ghost use Rattle.sheet_lines.specs.declared.ends.Form.TheVariants as form;
-ghost use Rattle.sheet_lines.specs.declared.find.Lines.TheVariants as lines;
 ghost use Rattle.sheet_lines.specs.Ends.{line_end};
 ghost use Rattle.sheet_lines.specs.Found.{found_of};
 ghost use Rattle.sheet.specs.Checks.{Checks};
@@ -12,14 +13,15 @@ ghost use Rattle.sheet_lines.specs.Judged.{variable_at, completed_at, variables_
 use crate::same::{built_same, completion_same};
 use definition::layout::VARIABLES;
 use driver::work::variable;
-use records::words::count;
+use records::file::File;
 use sheet_lines::ends::Form;
+use sheet_lines::find::Lines;
 use sheet_lines::next::next_line;
 
 // The two lines of one variable.
+#[tactic(auto, using(crate::proofs::Telling::telling))]
 fn variable_same(
-    file: &[u32],
-    source: &[usize],
+    file: &File<'_>,
     known: &[u32],
     sheet: &[u32],
     v: u32,
@@ -29,36 +31,34 @@ fn variable_same(
     stop: usize,
     room: &mut [u32],
 ) -> bool
-    requires { Checks file.now source.now known.now sheet.now (length room.old) × (v < Layout.count file.now Layout.variables) × (line_end form.Variables sheet.now at ≡ extent.Ends end) × (line_end form.Completed sheet.now from ≡ extent.Ends stop) }
-    ensures { result ≡ variable_at file.now sheet.now v at end && completed_at file.now sheet.now v from stop }
+    requires { Checks file.now.source known.now sheet.now (length room.old) × (v < Layout.count file.now.source Layout.variables) × (line_end form.Variables sheet.now at ≡ Some end) × (line_end form.Completed sheet.now from ≡ Some stop) }
+    ensures { result ≡ variable_at file.now.source sheet.now v at end && completed_at file.now.source sheet.now v from stop }
 {
-    let built = variable(file, source, known, sheet, v, room);
+    let built = variable(file, known, sheet, v, room);
     if !built_same(sheet, at, end, built, &room[..]) {
         return false;
     }
-    completion_same(file, source, v, sheet, from, stop, built, room)
+    completion_same(&file.source, v, sheet, from, stop, built, room)
 }
 
-// `variables` and `completed`: where the counts of the two sections stand.
+// `lines`: where the counts of the two sections stand.
 pub fn variables_right(
-    file: &[u32],
-    source: &[usize],
+    file: &File<'_>,
     known: &[u32],
     sheet: &[u32],
-    variables: usize,
-    completed: usize,
+    lines: Lines,
     room: &mut [u32],
 ) -> bool
-    requires { Checks file.now source.now known.now sheet.now (length room.old) × (found_of file.now sheet.now ≡ lines.Found variables completed) }
-    ensures { result ≡ variables_right file.now sheet.now variables completed }
+    requires { Checks file.now.source known.now sheet.now (length room.old) × (found_of file.now.source sheet.now ≡ Some lines) }
+    ensures { result ≡ variables_right file.now.source sheet.now lines.variables lines.completed }
 {
-    let many = count(file, source, VARIABLES);
-    let mut at = variables + 1;
-    let mut from = completed + 1;
+    let many = file.source.count(VARIABLES);
+    let mut at = lines.variables + 1;
+    let mut from = lines.completed + 1;
     for v in 0..many {
         let end = next_line(sheet, Form::Variables, at);
         let stop = next_line(sheet, Form::Completed, from);
-        if !variable_same(file, source, known, sheet, v, at, end, from, stop, room) {
+        if !variable_same(file, known, sheet, v, at, end, from, stop, room) {
             return false;
         }
         at = end;

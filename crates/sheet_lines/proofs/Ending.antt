@@ -15,41 +15,15 @@ use mir.Syntax.{w64}
 use mir.Val.{Fits}
 use Rattle.definition.specs.Sheet.{are_trees}
 use Rattle.laws.specs.Cases.{both, never}
-use Rattle.tree.specs.declared.extent.Extent.{Extent}
-use Rattle.tree.specs.declared.extent.Extent.TheVariants.{Ends, Not}
 use Rattle.tree.specs.Extent.{tree_of}
 use Rattle.tree.proofs.Writes.{test-le, test_fits}
 use Rattle.sheet_lines.specs.declared.ends.Form.{Form}
 use Rattle.sheet_lines.specs.declared.ends.Form.TheVariants.{Types, Variables, Completed}
 use Rattle.sheet_lines.specs.Ends.{head_words, state_at, empty_head, nodes_end, head_end, line_end, lines_end, section_end}
 use Rattle.sheet_lines.specs.There.{HeadThere}
+use Rattle.std.specs.Prelude.{None, Option, Some}
 
 -- ---- heads by their form
-module _ (form : Form) where
-  pub head-types : form ≡ Types → 3 ≡ head_words form
-  unfolding head_words
-  head-types e = rw e
-
-  pub head-variables : form ≡ Variables → 2 ≡ head_words form
-  unfolding head_words
-  head-variables e = rw e
-
-  pub head-completed : form ≡ Completed → 3 ≡ head_words form
-  unfolding head_words
-  head-completed e = rw e
-
-  pub state-types : form ≡ Types → 1 ≡ state_at form
-  unfolding state_at
-  state-types e = rw e
-
-  pub state-variables : form ≡ Variables → 0 ≡ state_at form
-  unfolding state_at
-  state-variables e = rw e
-
-  pub state-completed : form ≡ Completed → 0 ≡ state_at form
-  unfolding state_at
-  state-completed e = rw e
-
 -- the state and the second word stand in the head
 pub record HeadShape (form : Form) : Type 0 where
   pub two : 2 ≤ head_words form
@@ -94,7 +68,7 @@ module _ (form : Form) (state kind count : ℕ) where
     unfolding empty_head
     empty-other e h = rw (e, z, ne_eqb state 1 h)
 
-pub ruleset forms = (rules, head-types, head-variables, head-completed, state-types, state-variables, state-completed, empty-counted, empty-type, empty-variable, empty_left, empty-other)
+pub ruleset forms = (rules, empty-counted, empty-type, empty-variable, empty_left, empty-other)
 
 -- ---- a tree lies within the words
 none-there : (n : ℕ) → are_trees (take (6 * n) []) 1 ≡ false
@@ -116,19 +90,19 @@ tree-within s at n e = go (leb at (length s)) refl
 
 -- ---- nodes
 module _ (s : List ℕ) (at state count : ℕ) (empty : Bool) where
-  pub nodes-tree : state ≡ 0 → {b : Bool} → b ≡ tree_of s at count → b ≡ true → Ends (at + count * 6) ≡ nodes_end s at state count empty
+  pub nodes-tree : state ≡ 0 → {b : Bool} → b ≡ tree_of s at count → b ≡ true → Some (at + count * 6) ≡ nodes_end s at state count empty
   unfolding nodes_end
   nodes-tree p e t = let k : tree_of s at count ≡ true = sym e ∙ t in rw (eq-eqb state 0 p, k)
 
-  pub nodes-no-tree : state ≡ 0 → {b : Bool} → b ≡ tree_of s at count → b ≡ false → Not ≡ nodes_end s at state count empty
+  pub nodes-no-tree : state ≡ 0 → {b : Bool} → b ≡ tree_of s at count → b ≡ false → None ≡ nodes_end s at state count empty
   unfolding nodes_end
   nodes-no-tree p e t = let k : tree_of s at count ≡ false = sym e ∙ t in rw (eq-eqb state 0 p, k)
 
-  pub nodes-none : (state ≡ 0 → ⊥) → empty ≡ true → Ends at ≡ nodes_end s at state count empty
+  pub nodes-none : (state ≡ 0 → ⊥) → empty ≡ true → Some at ≡ nodes_end s at state count empty
   unfolding nodes_end
   nodes-none p e = rw (ne_eqb state 0 p, e)
 
-  pub nodes-not : (state ≡ 0 → ⊥) → empty ≡ false → Not ≡ nodes_end s at state count empty
+  pub nodes-not : (state ≡ 0 → ⊥) → empty ≡ false → None ≡ nodes_end s at state count empty
   unfolding nodes_end
   nodes-not p e = rw (ne_eqb state 0 p, e)
 
@@ -161,7 +135,7 @@ module _ (form : Form) (s : List ℕ) (at : ℕ) where
     pub head-count : from - 1 < length s
     head-count = omega (arith, x.is, x.within, (head-shape form).two)
 
-    pub head-is : {k : ℕ} → k ≡ state_at form → {e : Bool} → e ≡ empty_head form (get_or s (at + k) 0) (get_or s (at + 1) 0) (get_or s (from - 1) 0) → {r : Extent}
+    pub head-is : {k : ℕ} → k ≡ state_at form → {e : Bool} → e ≡ empty_head form (get_or s (at + k) 0) (get_or s (at + 1) 0) (get_or s (from - 1) 0) → {r : Option ℕ}
         → r ≡ nodes_end s from (get_or s (at + k) 0) (get_or s (from - 1) 0) e → r ≡ head_end form s at
     unfolding head_end
     head-is p q h = rw (← x.is, ← p, ← q) h
@@ -170,11 +144,11 @@ module _ (form : Form) (s : List ℕ) (at : ℕ) where
     pub head-there : b ≡ true → HeadThere form s at (at + k)
     head-there t = record { is = rw p; within = test-le e t }
 
-    pub line-so : b ≡ true → {r : Extent} → r ≡ head_end form s at → r ≡ line_end form s at
+    pub line-so : b ≡ true → {r : Option ℕ} → r ≡ head_end form s at → r ≡ line_end form s at
     unfolding line_end
     line-so t i = let l : leb (at + head_words form) (length s) ≡ true = rw (← p) (sym e ∙ t) in rw l i
 
-    pub line-past : b ≡ false → Not ≡ line_end form s at
+    pub line-past : b ≡ false → None ≡ line_end form s at
     unfolding line_end
     line-past t = let l : leb (at + head_words form) (length s) ≡ false = rw (← p) (sym e ∙ t) in rw l
 
@@ -185,44 +159,44 @@ pub ruleset ending = (rules, test-le, test_fits, head-there, line-so, line-past)
 -- ---- lines
 -- j lines end at a place
 pub record EndsAt (form : Form) (s : List ℕ) (at j place : ℕ) : Type 0 where
-  pub ends : lines_end form s j at ≡ Ends place
+  pub ends : lines_end form s j at ≡ Some place
 
 pub no_lines : (form : Form) (s : List ℕ) (at : ℕ) → EndsAt form s at 0 at
 unfolding lines_end
 no_lines form s at = record { ends = refl }
 
 module _ {form : Form} {s : List ℕ} {at j place : ℕ} (i : EndsAt form s at j place) where
-  pub next-line : {r : Extent} {e : ℕ} → r ≡ line_end form s place → r ≡ Ends e → EndsAt form s at (j + 1) e
+  pub next-line : {r : Option ℕ} {e : ℕ} → r ≡ line_end form s place → r ≡ Some e → EndsAt form s at (j + 1) e
   unfolding lines_end
   next-line h q = record { ends = rw (add-one j, i.ends) (sym h ∙ q) }
 
-  pub all_lines : (many : ℕ) → many ≤ j → j ≤ many → Ends place ≡ lines_end form s many at
+  pub all_lines : (many : ℕ) → many ≤ j → j ≤ many → Some place ≡ lines_end form s many at
   all_lines many h l = let e : many ≡ j = omega arith in rw e (sym i.ends)
 
   -- lines that go on behind one that is none are none
-  broken-more : line_end form s place ≡ Not → (k : ℕ) → lines_end form s (suc j + k) at ≡ Not
+  broken-more : line_end form s place ≡ None → (k : ℕ) → lines_end form s (suc j + k) at ≡ None
   unfolding lines_end
   broken-more h zero = rw (add-zero, i.ends) h
   broken-more h (suc k) =
       let e : suc j + suc k ≡ suc (suc j + k) = omega arith in
       ap (λ (m : ℕ). lines_end form s m at) e ∙ rw (broken-more h k)
 
-  pub broken-line : {r : Extent} → r ≡ line_end form s place → r ≡ Not → (many : ℕ) → j < many → Not ≡ lines_end form s many at
+  pub broken-line : {r : Option ℕ} → r ≡ line_end form s place → r ≡ None → (many : ℕ) → j < many → None ≡ lines_end form s many at
   broken-line h q many l =
       let e : suc j + (many - suc j) ≡ many = omega arith in
       sym (broken-more (sym h ∙ q) (many - suc j)) ∙ ap (λ (m : ℕ). lines_end form s m at) e
 
 -- ---- a section
 module _ (form : Form) (s : List ℕ) (n at : ℕ) where
-  pub section-lines : at < length s → get_or s at 0 ≡ n → {r : Extent} → r ≡ lines_end form s n (at + 1) → r ≡ section_end form s n at
+  pub section-lines : at < length s → get_or s at 0 ≡ n → {r : Option ℕ} → r ≡ lines_end form s n (at + 1) → r ≡ section_end form s n at
   unfolding section_end
   section-lines h k i = rw (lt-ltb at (length s) h, eq-eqb (get_or s at 0) n k) i
 
-  pub section-other : at < length s → (get_or s at 0 ≡ n → ⊥) → Not ≡ section_end form s n at
+  pub section-other : at < length s → (get_or s at 0 ≡ n → ⊥) → None ≡ section_end form s n at
   unfolding section_end
   section-other h k = rw (lt-ltb at (length s) h, ne_eqb (get_or s at 0) n k)
 
-  pub section-past : length s ≤ at → Not ≡ section_end form s n at
+  pub section-past : length s ≤ at → None ≡ section_end form s n at
   unfolding section_end
   section-past h = rw (le-ltb at (length s) h)
 

@@ -31,7 +31,8 @@ use Rattle.laws.specs.Sizes.{type-small}
 use Rattle.laws.specs.Passing.{same-words}
 use Rattle.laws.specs.Demand.{falls, table-only, table-solves, variable-from}
 use Rattle.sheet_lines.specs.declared.ends.Form.TheVariants.{Types}
-use Rattle.sheet_lines.specs.declared.find.Lines.TheVariants.{Found, Unreadable}
+use Rattle.std.specs.Prelude.{Some, None}
+use Rattle.sheet_lines.specs.declared.find.Lines.{Lines}
 use Rattle.sheet_lines.specs.Ends.{head_words, line_at}
 use Rattle.sheet_lines.specs.Found.{found_of}
 use Rattle.sheet_lines.specs.Read.{sheet_at}
@@ -177,23 +178,23 @@ module _ {f s : List ℕ} {v c : ℕ} (x : FoundAt f s v c) (e : verdict f ≡ 0
 
 -- ---- the answers of the check
 module _ (f s : List ℕ) (e : verdict f ≡ 0) where
-  pub check-unreadable : found_of f s ≡ Unreadable → check_answer f s ≡ 11
+  pub check-unreadable : found_of f s ≡ None → check_answer f s ≡ 11
   unfolding check_answer
   check-unreadable i = rw (e, found-no f s i)
 
-  module _ {v c : ℕ} (i : found_of f s ≡ Found v c) where
-    pub check-ranks : ranks_rise f (sheet_at f s v c) ≡ false → check_answer f s ≡ 12
+  module _ {x : Lines} (i : found_of f s ≡ Some x) where
+    pub check-ranks : ranks_rise f (sheet_at f s x.variables x.completed) ≡ false → check_answer f s ≡ 12
     unfolding check_answer
     check-ranks r = rw (e, found-sheet f s i, r)
 
-    module _ (r : ranks_rise f (sheet_at f s v c) ≡ true) where
-      judged-is : (b : Bool) → judged f s v c ≡ b → lines_right f (sheet_at f s v c) ≡ b
-      judged-is b j = judged-right (found_at f s v c i) e r ∙ j
+    module _ (r : ranks_rise f (sheet_at f s x.variables x.completed) ≡ true) where
+      judged-is : (b : Bool) → judged f s x.variables x.completed ≡ b → lines_right f (sheet_at f s x.variables x.completed) ≡ b
+      judged-is b j = judged-right (found_at f s x i) e r ∙ j
 
-      pub check-lines : judged f s v c ≡ false → check_answer f s ≡ 13
+      pub check-lines : judged f s x.variables x.completed ≡ false → check_answer f s ≡ 13
       unfolding check_answer
       check-lines j = rw (e, found-sheet f s i, r, judged-is false j)
 
-      pub check-passes : judged f s v c ≡ true → check_answer f s ≡ 0
+      pub check-passes : judged f s x.variables x.completed ≡ true → check_answer f s ≡ 0
       unfolding check_answer
       check-passes j = rw (e, found-sheet f s i, r, judged-is true j)

@@ -30,7 +30,8 @@ use Rattle.laws.specs.Whole.{flatten-length}
 use Rattle.sheet_lines.specs.declared.ends.Form.{Form}
 use Rattle.sheet_lines.specs.declared.ends.Form.TheVariants as form
 use Rattle.sheet_lines.specs.Ends.{line_at, lines_end}
-use Rattle.sheet_lines.specs.declared.find.Lines.TheVariants.{Found}
+use Rattle.std.specs.Prelude.{Some}
+use Rattle.sheet_lines.specs.declared.find.Lines.{Lines}
 use Rattle.sheet_lines.specs.Found.{found_of}
 use Rattle.sheet_lines.specs.Read.{sheet_at}
 use Rattle.sheet_lines.specs.Small.{small_at}
@@ -117,9 +118,9 @@ module _ {f s : List ℕ} {v c : ℕ} (x : FoundAt f s v c) (e : verdict f ≡ 0
   right-short = omega (arith, types-most, variables-most, completed-most, few-types f (accepted f e), few-variables)
 
 -- a longer sheet is refusal 13 where 11 and 12 are not met, so its places need not fit a word
-pub check-long : (f s : List ℕ) → verdict f ≡ 0 → {v c : ℕ} → found_of f s ≡ Found v c → ranks_rise f (sheet_at f s v c) ≡ true → 113280000 < length s → check_answer f s ≡ 13
-check-long f s e {v} {c} i r h = check-lines f s e i r (go (judged f s v c) refl)
+pub check-long : (f s : List ℕ) → verdict f ≡ 0 → {x : Lines} → found_of f s ≡ Some x → ranks_rise f (sheet_at f s x.variables x.completed) ≡ true → 113280000 < length s → check_answer f s ≡ 13
+check-long f s e {x} i r h = check-lines f s e i r (go (judged f s x.variables x.completed) refl)
   where
-    go : (b : Bool) → judged f s v c ≡ b → b ≡ false
-    go true j = absurd (omega (arith, right-short (found_at f s v c i) e j))
+    go : (b : Bool) → judged f s x.variables x.completed ≡ b → b ≡ false
+    go true j = absurd (omega (arith, right-short (found_at f s x i) e j))
     go false j = refl

@@ -19,21 +19,20 @@ use Rattle.laws.specs.Every.{each_two}
 use Rattle.laws.specs.Ranks.{Used, Inside, Rising, true-rising, rising-true}
 use Rattle.laws.specs.Used.{uses-inside}
 use Rattle.records.specs.Tables.{table_of, Filled, table-length, table_at}
-use Rattle.tree.specs.declared.extent.Extent.{Extent}
-use Rattle.tree.specs.declared.extent.Extent.TheVariants.{Ends, Not}
 use Rattle.tree.specs.Part.{on_end}
 use Rattle.sheet_lines.specs.declared.ends.Form.{Form}
 use Rattle.sheet_lines.specs.declared.ends.Form.TheVariants.{Types, Variables, Completed}
-use Rattle.sheet_lines.specs.declared.find.Lines.TheVariants.{Found, Unreadable}
+use Rattle.sheet_lines.specs.declared.find.Lines.{Lines}
 use Rattle.sheet_lines.specs.declared.index.Kept.{Kept}
 use Rattle.sheet_lines.specs.declared.index.Kept.TheVariants.{Places, Ranks}
 use Rattle.sheet_lines.specs.Ends.{head_words, line_end, lines_end, line_at, section_end}
 use Rattle.sheet_lines.specs.Index.{most_places, kept_word, kept_at}
 use Rattle.sheet_lines.specs.There.{is_end}
-use Rattle.sheet_lines.specs.Found.{last_of, variables_of, found_of}
+use Rattle.sheet_lines.specs.Found.{lines, last_of, variables_of, found_of}
 use Rattle.sheet_lines.specs.Read.{lines_in, sheet_at}
 use Rattle.sheet_lines.proofs.Indexing.{place-near}
 use Rattle.sheet_lines.proofs.Reading.{line-within, lines-front, SectionThere, section-there}
+use Rattle.std.specs.Prelude.{None, Option, Some}
 
 -- ---- the sections of a sheet that was found
 pub record FoundAt (f s : List ℕ) (v c : ℕ) : Type 0 where
@@ -41,39 +40,40 @@ pub record FoundAt (f s : List ℕ) (v c : ℕ) : Type 0 where
   pub variables_there : SectionThere Variables s (count f variables) v c
   pub completed_there : SectionThere Completed s (count f variables) c (length s)
 
-not_found : {X : Type 0} (v c : ℕ) → Unreadable ≡ Found v c → X
-not_found v c e = let z : ◌≡◌ {A = ℕ} 0 1 = cc in absurd (omega arith)
+not_found : {X : Type 0} (x : Lines) → None ≡ Some x → X
+not_found x e = let z : ◌≡◌ {A = ℕ} 0 1 = cc in absurd (omega arith)
 
-module _ (f s : List ℕ) (v c : ℕ) where
-  last-at : (v' c' : ℕ) (x : Extent) → section_end Types s (count f types) 0 ≡ Ends v' → section_end Variables s (count f variables) v' ≡ Ends c' → section_end Completed s (count f variables) c' ≡ x
-      → on_end x (λ e. pick (eqb e (length s)) (Found v' c') Unreadable) Unreadable ≡ Found v c → FoundAt f s v c
-  last-at v' c' (Ends e) p q r i₀ = go (eqb e (length s)) refl i₀
+module _ (f s : List ℕ) (l : Lines) where
+  last-at : (v' c' : ℕ) (x : Option ℕ) → section_end Types s (count f types) 0 ≡ Some v' → section_end Variables s (count f variables) v' ≡ Some c' → section_end Completed s (count f variables) c' ≡ x
+      → on_end x (λ e. pick (eqb e (length s)) (Some (lines v' c')) None) None ≡ Some l → FoundAt f s l.variables l.completed
+  last-at v' c' (Some e) p q r i₀ = go (eqb e (length s)) refl i₀
     where
-      go : (b : Bool) → eqb e (length s) ≡ b → pick b (Found v' c') Unreadable ≡ Found v c → FoundAt f s v c
+      go : (b : Bool) → eqb e (length s) ≡ b → pick b (Some (lines v' c')) None ≡ Some l → FoundAt f s l.variables l.completed
       go true t i =
-          let a : v' ≡ v = cc in
-          let b : c' ≡ c = cc in
+          let k : lines v' c' ≡ l = cc in
+          let a : v' ≡ l.variables = ap (λ (x : Lines). x.variables) k in
+          let b : c' ≡ l.completed = ap (λ (x : Lines). x.completed) k in
           let n : e ≡ length s = eqb-true e (length s) t in
           record {
-            types_there = section-there Types s (count f types) 0 v (p ∙ ap Ends a);
-            variables_there = section-there Variables s (count f variables) v c (rw (← a, ← b) q);
-            completed_there = section-there Completed s (count f variables) c (length s) (rw (← b, ← n) r);
+            types_there = section-there Types s (count f types) 0 l.variables (p ∙ ap Some a);
+            variables_there = section-there Variables s (count f variables) l.variables l.completed (rw (← a, ← b) q);
+            completed_there = section-there Completed s (count f variables) l.completed (length s) (rw (← b, ← n) r);
           }
-      go false t i = not_found v c i
-  last-at v' c' Not p q r i = not_found v c i
+      go false t i = not_found l i
+  last-at v' c' None p q r i = not_found l i
 
-  second_at : (v' : ℕ) (x : Extent) → section_end Types s (count f types) 0 ≡ Ends v' → section_end Variables s (count f variables) v' ≡ x
-      → on_end x (λ c. last_of s (count f variables) v' c) Unreadable ≡ Found v c → FoundAt f s v c
+  second_at : (v' : ℕ) (x : Option ℕ) → section_end Types s (count f types) 0 ≡ Some v' → section_end Variables s (count f variables) v' ≡ x
+      → on_end x (λ c. last_of s (count f variables) v' c) None ≡ Some l → FoundAt f s l.variables l.completed
   unfolding last_of
-  second_at v' (Ends c') p q i = last-at v' c' (section_end Completed s (count f variables) c') p q refl i
-  second_at v' Not p q i = not_found v c i
+  second_at v' (Some c') p q i = last-at v' c' (section_end Completed s (count f variables) c') p q refl i
+  second_at v' None p q i = not_found l i
 
-  first-at : (x : Extent) → section_end Types s (count f types) 0 ≡ x → on_end x (λ v. variables_of s (count f variables) v) Unreadable ≡ Found v c → FoundAt f s v c
+  first-at : (x : Option ℕ) → section_end Types s (count f types) 0 ≡ x → on_end x (λ v. variables_of s (count f variables) v) None ≡ Some l → FoundAt f s l.variables l.completed
   unfolding variables_of
-  first-at (Ends v') p i = second_at v' (section_end Variables s (count f variables) v') p refl i
-  first-at Not p i = not_found v c i
+  first-at (Some v') p i = second_at v' (section_end Variables s (count f variables) v') p refl i
+  first-at None p i = not_found l i
 
-  pub found_at : found_of f s ≡ Found v c → FoundAt f s v c
+  pub found_at : found_of f s ≡ Some l → FoundAt f s l.variables l.completed
   unfolding found_of
   found_at i = first-at (section_end Types s (count f types) 0) refl i
 
@@ -88,27 +88,27 @@ module _ (form : Form) (s : List ℕ) (at : ℕ) where
       n : j + suc d ≡ suc (j + d)
       n = omega arith
 
-      go : (x : Extent) → is_end (on_end x (line_end form s) Not) ≡ true → is_end x ≡ true
-      go (Ends p) e = refl
-      go Not e = e
+      go : (x : Option ℕ) → is_end (on_end x (line_end form s) None) ≡ true → is_end x ≡ true
+      go (Some p) e = refl
+      go None e = e
 
   module _ {k : ℕ} (h : is_end (lines_end form s k at) ≡ true) (t : ℕ) (l : t < k) where
     next-ends : is_end (lines_end form s (suc t) at) ≡ true
     next-ends = let n : suc t + (k - suc t) ≡ k = omega arith in front_ends (suc t) (k - suc t) (rw n h)
 
     -- line t lies from its place to that of the next
-    pub line-ends : line_end form s (line_at form s at t) ≡ Ends (line_at form s at (suc t))
+    pub line-ends : line_end form s (line_at form s at t) ≡ Some (line_at form s at (suc t))
     unfolding lines_end line_at
     line-ends = go (lines_end form s t at) next-ends
       where
-        last : (y : Extent) → is_end y ≡ true → y ≡ Ends (on_end y (λ e. e) 0)
-        last (Ends e) i = refl
-        last Not i = never i
+        last : (y : Option ℕ) → is_end y ≡ true → y ≡ Some (on_end y (λ e. e) 0)
+        last (Some e) i = refl
+        last None i = never i
 
-        go : (x : Extent) → is_end (on_end x (line_end form s) Not) ≡ true
-            → line_end form s (on_end x (λ e. e) 0) ≡ Ends (on_end (on_end x (line_end form s) Not) (λ e. e) 0)
-        go (Ends p) i = last (line_end form s p) i
-        go Not i = never i
+        go : (x : Option ℕ) → is_end (on_end x (line_end form s) None) ≡ true
+            → line_end form s (on_end x (λ e. e) 0) ≡ Some (on_end (on_end x (line_end form s) None) (λ e. e) 0)
+        go (Some p) i = last (line_end form s p) i
+        go None i = never i
 
     pub line-inside : (line_at form s at t + head_words form ≤ line_at form s at (suc t)) × (line_at form s at (suc t) ≤ length s)
     line-inside = line-within form s (line_at form s at t) (line_at form s at (suc t)) line-ends
@@ -119,7 +119,7 @@ module _ (form : Form) (s : List ℕ) where
   unfolding line_at lines_end
   first-place at = refl
 
-  next_place : (at e t : ℕ) → line_end form s at ≡ Ends e → line_at form s at (suc t) ≡ line_at form s e t
+  next_place : (at e t : ℕ) → line_end form s at ≡ Some e → line_at form s at (suc t) ≡ line_at form s e t
   unfolding line_at
   next_place at e t q = rw (lines-front form s t at, q)
 
@@ -128,14 +128,14 @@ module _ (form : Form) (s : List ℕ) where
   line-is zero at t h l = absurd (omega arith)
   line-is (suc k) at t h l = go (line_end form s at) refl (rw (lines-front form s k at) at h) t l (λ e. line-is k e)
     where
-      go : (x : Extent) → line_end form s at ≡ x → is_end (on_end x (λ e. lines_end form s k e) Not) ≡ true → (t : ℕ) → t < suc k
+      go : (x : Option ℕ) → line_end form s at ≡ x → is_end (on_end x (λ e. lines_end form s k e) None) ≡ true → (t : ℕ) → t < suc k
           → ((e t : ℕ) → is_end (lines_end form s k e) ≡ true → t < k → get_or (lines_in form s k e) t [] ≡ slice (line_at form s e t) (line_at form s e (suc t)) s)
           → get_or (on_end x (λ e. slice at e s ∷ lines_in form s k e) []) t [] ≡ slice (line_at form s at t) (line_at form s at (suc t)) s
-      go (Ends e) q i zero l ih = rw (next_place at e 0 q, first-place at, first-place e)
-      go (Ends e) q i (suc t) l ih = rw (next_place at e t q, next_place at e (suc t) q) (ih e t i (omega arith))
-      go Not q i t l ih = never i
+      go (Some e) q i zero l ih = rw (next_place at e 0 q, first-place at, first-place e)
+      go (Some e) q i (suc t) l ih = rw (next_place at e t q, next_place at e (suc t) q) (ih e t i (omega arith))
+      go None q i t l ih = never i
 
-ends_is : {x : Extent} {e : ℕ} → x ≡ Ends e → is_end x ≡ true
+ends_is : {x : Option ℕ} {e : ℕ} → x ≡ Some e → is_end x ≡ true
 ends_is q = rw q
 
 -- ---- the index

@@ -26,7 +26,6 @@ use Rattle.laws.specs.Whole.{Good, flatten-length, nodes-some}
 use Rattle.laws.specs.Readable.{whole-tree}
 use Rattle.lines.specs.Memory.{Holds, Remembers}
 use Rattle.records.specs.Tables.{Filled}
-use Rattle.tree.specs.declared.extent.Extent.TheVariants.{Ends, Not}
 use Rattle.tree.specs.Extent.{tree_of}
 use Rattle.tree.specs.Words.{Stand}
 use Rattle.tree.proofs.Stands.{take-drop, stand-append}
@@ -39,6 +38,7 @@ use Rattle.sheet_lines.specs.Small.{small_line, small_at}
 use Rattle.sheet_lines.proofs.Ending.{tree-within}
 use Rattle.sheet_lines.proofs.Reading.{two-stand}
 use Rattle.sheet_lines.proofs.Placed.{FoundAt, line-ends, line-inside, types-end, filled-wide, index-place}
+use Rattle.std.specs.Prelude.{None, Some}
 
 -- ---- what a type's line says
 pub record LineSays (s : List ℕ) (p e : ℕ) (o : Outcome) : Type 0 where
@@ -151,28 +151,28 @@ module _ (s : List ℕ) (p : ℕ) (h : p + 3 ≤ length s) where
         go (no e) = rw (ne_eqb state 1 e) (record { stands = state-stands 2 (omega (arith, no-nodes.0, z, e)); good = tt; small = λ i. tt; sized = λ i. rw (ne_eqb state 0 z) })
 
   -- ---- either
-  either-says : (e : ℕ) → nodes_end s (p + 3) state many (empty_head Types state state many) ≡ Ends e → LineSays s p e (said_at s p)
+  either-says : (e : ℕ) → nodes_end s (p + 3) state many (empty_head Types state state many) ≡ Some e → LineSays s p e (said_at s p)
   unfolding nodes_end
   either-says e i₀ = go (eqb state 0) refl i₀
     where
-      tree : (b : Bool) → state ≡ 0 → tree_of s (p + 3) many ≡ b → pick b (Ends (p + 3 + many * 6)) Not ≡ Ends e → LineSays s p e (said_at s p)
+      tree : (b : Bool) → state ≡ 0 → tree_of s (p + 3) many ≡ b → pick b (Some (p + 3 + many * 6)) None ≡ Some e → LineSays s p e (said_at s p)
       tree true z q i = let n : p + 3 + many * 6 ≡ e = cc in subst (λ (d : ℕ). LineSays s p d (said_at s p)) n (tree-says z q)
       tree false z q i = let y : ◌≡◌ {A = ℕ} 0 1 = cc in absurd (omega arith)
 
-      bare : (b : Bool) → (state ≡ 0 → ⊥) → empty_head Types state state many ≡ b → pick b (Ends (p + 3)) Not ≡ Ends e → LineSays s p e (said_at s p)
+      bare : (b : Bool) → (state ≡ 0 → ⊥) → empty_head Types state state many ≡ b → pick b (Some (p + 3)) None ≡ Some e → LineSays s p e (said_at s p)
       bare true z q i = let n : p + 3 ≡ e = cc in subst (λ (d : ℕ). LineSays s p d (said_at s p)) n (state-says z q)
       bare false z q i = let y : ◌≡◌ {A = ℕ} 0 1 = cc in absurd (omega arith)
 
-      go : (b : Bool) → eqb state 0 ≡ b → pick b (pick (tree_of s (p + 3) many) (Ends (p + 3 + many * 6)) Not) (pick (empty_head Types state state many) (Ends (p + 3)) Not) ≡ Ends e
+      go : (b : Bool) → eqb state 0 ≡ b → pick b (pick (tree_of s (p + 3) many) (Some (p + 3 + many * 6)) None) (pick (empty_head Types state state many) (Some (p + 3)) None) ≡ Some e
           → LineSays s p e (said_at s p)
       go true q i = tree (tree_of s (p + 3) many) (eqb-true state 0 q) refl i
       go false q i = bare (empty_head Types state state many) (eqb-false state 0 q) refl i
 
-pub line-says : (s : List ℕ) (p e : ℕ) → line_end Types s p ≡ Ends e → LineSays s p e (said_at s p)
+pub line-says : (s : List ℕ) (p e : ℕ) → line_end Types s p ≡ Some e → LineSays s p e (said_at s p)
 unfolding line_end head_end head_words state_at
 line-says s p e i₀ = go (leb (p + 3) (length s)) refl i₀
   where
-    go : (b : Bool) → leb (p + 3) (length s) ≡ b → pick b (head_end Types s p) Not ≡ Ends e → LineSays s p e (said_at s p)
+    go : (b : Bool) → leb (p + 3) (length s) ≡ b → pick b (head_end Types s p) None ≡ Some e → LineSays s p e (said_at s p)
     go true q i = let n : p + 3 - 1 ≡ p + 2 = omega arith in either-says s p (leb-true (p + 3) (length s) q) e (rw n at i)
     go false q i = let z : ◌≡◌ {A = ℕ} 0 1 = cc in absurd (omega arith)
 

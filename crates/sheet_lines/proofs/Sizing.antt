@@ -13,13 +13,13 @@ use mir.Val.{Fits}
 use Rattle.definition.specs.Base.{every}
 use Rattle.definition.specs.Tree.{most_nodes}
 use Rattle.records.proofs.Scanning.{Passed, none_yet, all-passed, passes, fails}
-use Rattle.tree.specs.declared.extent.Extent.TheVariants.{Ends}
 use Rattle.sheet_lines.specs.declared.ends.Form.TheVariants.{Types}
 use Rattle.sheet_lines.specs.Ends.{head_words, line_end}
 use Rattle.sheet_lines.specs.There.{LineThere, LinesThere}
 use Rattle.sheet_lines.specs.Small.{small_line, small_at}
 use Rattle.sheet_lines.proofs.Ending.{EndsAt, no_lines}
 use Rattle.sheet_lines.proofs.Shapes.{there-shape, line-there, line-next, place_is}
+use Rattle.std.specs.Prelude.{Some}
 
 -- ---- one line
 module _ (s : List ℕ) (at : ℕ) {a : ℕ} (p : a ≡ get_or s (at + 1) 0) where
@@ -70,7 +70,7 @@ module _ {s : List ℕ} {many t place : ℕ} (x : Sizing s many t place) where
   unfolding small_at
   here = ap (small_line s) (sym (place_is x.ends))
 
-  pub size-on : t < many → {b : Bool} → b ≡ small_line s place → b ≡ true → {e : ℕ} → line_end Types s place ≡ Ends e → Sizing s many (t + 1) e
+  pub size-on : t < many → {b : Bool} → b ≡ small_line s place → b ≡ true → {e : ℕ} → line_end Types s place ≡ Some e → Sizing s many (t + 1) e
   size-on h p q r = record { most = omega arith; all = x.all; ends = line-next x.ends r; so_far = passes x.so_far (p ∙ here) q }
 
   pub size-stops : t < many → {b : Bool} → b ≡ small_line s place → b ≡ false → false ≡ every (small_at s) many

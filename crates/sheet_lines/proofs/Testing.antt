@@ -15,13 +15,13 @@ use Rattle.definition.specs.Uses.{uses, rising}
 use Rattle.laws.specs.Accepted.{accepted}
 use Rattle.lines.specs.Memory.{Remembers}
 use Rattle.records.specs.Tables.{Filled}
-use Rattle.ranks.specs.declared.above.RanksIn.TheVariants as ranks
 use Rattle.ranks.specs.Above.{rank_in}
 use Rattle.sheet_lines.specs.declared.ends.Form.TheVariants.{Types}
 use Rattle.sheet_lines.specs.declared.find.Lines.{Lines}
-use Rattle.sheet_lines.specs.declared.find.Lines.TheVariants.{Found, Unreadable}
 use Rattle.sheet_lines.specs.declared.index.Kept.TheVariants.{Places, Ranks}
-use Rattle.sheet_lines.specs.declared.tests.Tested.TheVariants as tested
+use Rattle.definition.specs.declared.answers.Refusal.TheVariants as refusal
+use Rattle.definition.specs.Answers.{number_of}
+use Rattle.std.specs.Prelude.{Option, Some, None, Ok, Err}
 use Rattle.sheet_lines.specs.Found.{found_of}
 use Rattle.sheet_lines.specs.Index.{kept_at}
 use Rattle.sheet_lines.specs.Judged.{judged}
@@ -42,67 +42,67 @@ module _ {f s : List ℕ} {many n : ℕ} (x : Lined f s many n) where
   pub lined-room : {m : ℕ} → m ≡ n → many ≤ m
   lined-room e = omega (arith, x.room)
 
-  pub lined-rise : verdict f ≡ 0 → {lent index : List ℕ} → Filled (kept_at Ranks s) many lent index → (other : List ℕ) {r : Bool}
-      → r ≡ rising (count f types) (uses f) (rank_in ranks.Words other index) → r ≡ rising (count f types) (uses f) (kept_at Ranks s)
-  unfolding rank_in
-  lined-rise e g other q = q ∙ rise-by-index (accepted f e) s (rw x.all at g)
+  pub lined-rise : verdict f ≡ 0 → {lent index : List ℕ} → Filled (kept_at Ranks s) many lent index → {r : Bool}
+      → r ≡ rising (count f types) (uses f) (rank_in index) → r ≡ rising (count f types) (uses f) (kept_at Ranks s)
+  lined-rise e g q = q ∙ rise-by-index (accepted f e) s (rw x.all at g)
 
-pub ruleset rising-laws = (rules, lined-there, lined-room, lined-rise)
+pub ruleset rising_laws = (rules, lined-there, lined-room, lined-rise)
 
--- ---- `test_lines`
+-- ---- `test_sheet`
 small-judged : (f s : List ℕ) (v c : ℕ) → every (small_at s) (count f types) ≡ false → judged f s v c ≡ false
 unfolding judged
 small-judged f s v c h = rw h
 
-module _ (f s : List ℕ) (e : verdict f ≡ 0) {v c : ℕ} (i : found_of f s ≡ Found v c) where
-  pub found-lined : {n : ℕ} → n ≡ count f types → {k : ℕ} → count f types ≤ k → Lined f s n k
-  found-lined p h = record { all = p; there = rw p (record { there = types-end (found_at f s v c i) }); room = omega arith }
+module _ (f s : List ℕ) (e : verdict f ≡ 0) {w : Option Lines} (o : w ≡ found_of f s) where
+  pub tests-unreadable : w ≡ None → {new : List ℕ} → Tests f s (Err refusal.Sections) new
+  unfolding number_of
+  tests-unreadable i = record { says = check-unreadable f s e (sym o ∙ i) }
 
-  pub found-there : {n : ℕ} → n ≡ count f types → LinesThere Types s n 1
-  found-there p = (found-lined p {k = count f types} (omega arith)).there
+  module _ {x : Lines} (i : w ≡ Some x) where
+    there : found_of f s ≡ Some x
+    there = sym o ∙ i
 
-  module _ {b : Bool} (q : b ≡ rising (count f types) (uses f) (kept_at Ranks s)) where
-    rise-is : b ≡ ranks_rise f (sheet_at f s v c)
-    rise-is = q ∙ rise-by-lines (accepted f e) (found_at f s v c i)
+    pub found-lined : {n : ℕ} → n ≡ count f types → {k : ℕ} → count f types ≤ k → Lined f s n k
+    found-lined p h = record { all = p; there = rw p (record { there = types-end (found_at f s x there) }); room = omega arith }
 
-    pub tests-ranks : b ≡ false → {new : List ℕ} → Tests f s (tested.Refused 12) new
-    tests-ranks t = record { says = check-ranks f s e i (sym rise-is ∙ t) }
+    pub found-there : {n : ℕ} → n ≡ count f types → LinesThere Types s n 1
+    found-there p = (found-lined p {k = count f types} (omega arith)).there
 
-    module _ (t : b ≡ true) where
-      rises : ranks_rise f (sheet_at f s v c) ≡ true
-      rises = sym rise-is ∙ t
+    module _ {b : Bool} (q : b ≡ rising (count f types) (uses f) (kept_at Ranks s)) where
+      rise-is : b ≡ ranks_rise f (sheet_at f s x.variables x.completed)
+      rise-is = q ∙ rise-by-lines (accepted f e) (found_at f s x there)
 
-      pub tests-long : 113280000 < length s → {new : List ℕ} → Tests f s (tested.Refused 13) new
-      tests-long h = record { says = check-long f s e i rises h }
+      pub tests-ranks : b ≡ false → {new : List ℕ} → Tests f s (Err refusal.Ranks) new
+      unfolding number_of
+      tests-ranks t = record { says = check-ranks f s e there (sym rise-is ∙ t) }
 
-      module _ (h : length s ≤ 113280000) {n : ℕ} (k : n ≡ count f types) {d : Bool} (p : d ≡ every (small_at s) n) where
-        small_is : d ≡ every (small_at s) (count f types)
-        small_is = rw (← k) p
+      module _ (t : b ≡ true) where
+        rises : ranks_rise f (sheet_at f s x.variables x.completed) ≡ true
+        rises = sym rise-is ∙ t
 
-        pub tests_large : d ≡ false → {new : List ℕ} → Tests f s (tested.Refused 13) new
-        tests_large z = record { says = check-lines f s e i rises (small-judged f s v c (sym small_is ∙ z)) }
+        pub tests-long : 113280000 < length s → {new : List ℕ} → Tests f s (Err refusal.Lines) new
+        unfolding number_of
+        tests-long h = record { says = check-long f s e there rises h }
 
-        pub tests-comparable : d ≡ true → {index new : List ℕ} → Filled (kept_at Places s) n index new → Tests f s (tested.Comparable v c) new
-        tests-comparable z {index} g =
-            record {
-              says = record { found = i; rises = rises; small = sym small_is ∙ z; short = omega arith; lent = index; filled = rw k at g };
-            }
+        module _ (h : length s ≤ 113280000) {n : ℕ} (k : n ≡ count f types) {d : Bool} (p : d ≡ every (small_at s) n) where
+          small_is : d ≡ every (small_at s) (count f types)
+          small_is = rw (← k) p
+
+          pub tests_large : d ≡ false → {new : List ℕ} → Tests f s (Err refusal.Lines) new
+          unfolding number_of
+          tests_large z = record { says = check-lines f s e there rises (small-judged f s x.variables x.completed (sym small_is ∙ z)) }
+
+          pub tests-comparable : d ≡ true → {index new : List ℕ} → Filled (kept_at Places s) n index new → Tests f s (Ok x) new
+          tests-comparable z {index} g =
+              record {
+                says = record { found = there; rises = rises; small = sym small_is ∙ z; short = omega arith; lent = index; filled = rw k at g };
+              }
 
 pub types-room : (f : List ℕ) {m n k : ℕ} → n ≡ count f types → count f types ≤ k → m ≡ k → n ≤ m
 types-room f e h l = omega arith
 
-pub ruleset testing = (rules, not-true, not-false, found-lined, found-there, tests-ranks, tests-long, tests_large, tests-comparable, types-room)
-
--- ---- `test_sheet`
-module _ (f s : List ℕ) {r : Lines} (x : r ≡ found_of f s) where
-  pub tests-unreadable : r ≡ Unreadable → verdict f ≡ 0 → {new : List ℕ} → Tests f s (tested.Refused 11) new
-  tests-unreadable i e = record { says = check-unreadable f s e (sym x ∙ i) }
-
-  pub tests-found : {v c : ℕ} → r ≡ Found v c → found_of f s ≡ Found v c
-  tests-found i = sym x ∙ i
-
-pub ruleset reading = (rules, tests-unreadable, tests-found)
+pub ruleset testing = (rules, not-true, not-false, tests-unreadable, found-lined, found-there, tests-ranks, tests-long, tests_large, tests-comparable, types-room)
 
 -- ---- what the building functions then read
-pub comparable-remembers : {f s : List ℕ} {v c : ℕ} {index : List ℕ} → Comparable f s v c index → Remembers index s (length s) (sheet_memo s (count f types))
-comparable-remembers {f} {s} {v} {c} x = sheet-remembers (found_at f s v c x.found) x.filled x.short x.small
+pub comparable-remembers : {f s : List ℕ} {x : Lines} {index : List ℕ} → Comparable f s x index → Remembers index s (length s) (sheet_memo s (count f types))
+comparable-remembers {f} {s} {x = l} x = sheet-remembers (found_at f s l x.found) x.filled x.short x.small

@@ -1,11 +1,11 @@
 -- Heads and lines that are there: what is known of a sheet's words once they were read.
 use Rattle.std.specs.Prelude.{◌≡◌, Bool, true, false, List, ℕ, ◌+◌, ◌-◌, ◌*◌, ◌≤◌, length, get_or}
-use Rattle.tree.specs.declared.extent.Extent.{Extent}
 use Rattle.tree.specs.Part.{on_end}
 use Rattle.sheet_lines.specs.declared.ends.Form.{Form}
 use Rattle.sheet_lines.specs.Ends.{head_words, line_end, lines_end}
+use Rattle.std.specs.Prelude.{Option}
 
-abbrev pub is_end : Extent → Bool
+abbrev pub is_end : Option ℕ → Bool
 is_end x = on_end x (λ e. true) false
 
 -- a head lies from one place to another

@@ -1,4 +1,6 @@
 // Lines compared word for word with what was built in other words (refusal 13).
+#![tactic(auto, using(crate::proofs::Comparing::lines))]
+
 ghost use Rattle.std.specs.Prelude.{◌≡◌, ◌∷◌, ◌+◌, ◌*◌, length, take};
 ghost use Rattle.std.proofs.Math.Seq.{slice};
 ghost use Rattle.definition.specs.Sheet.{same_words};
@@ -7,18 +9,15 @@ ghost use Rattle.sheet_lines.specs.Compare.{Beside, NodesBeside};
 use definition::layout::NODE_WORDS;
 
 // Whether so many words at a place are the first of another slice.
+#[tactic(auto, using(crate::proofs::Comparing::comparing))]
 pub fn words_same(a: &[u32], at: usize, b: &[u32], many: usize) -> bool
     requires { Beside (length a.now) at (length b.now) many }
     ensures { result ≡ same_words (slice at (at + many) a.now) (take many b.now) }
 {
-    let mut i: usize = 0;
-    while i < many {
-        let x = a[at + i];
-        let y = b[i];
-        if x != y {
+    for i in 0..many {
+        if a[at + i] != b[i] {
             return false;
         }
-        i += 1;
     }
     true
 }

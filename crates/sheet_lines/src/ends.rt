@@ -1,10 +1,12 @@
 // Where a line of a sheet ends, if its words are a line: a known state, one whole tree after a state 0 and only zeros after any other.
+#![tactic(auto, using(crate::proofs::Ending::forms))]
+
 ghost use Rattle.std.specs.Prelude.{◌≡◌};
 ghost use Rattle.sheet_lines.specs.Ends.{head_words, state_at, empty_head, nodes_end, head_end, line_end, lines_end, section_end};
 ghost use Rattle.sheet_lines.specs.There.{HeadThere};
 
 use definition::layout::NODE_WORDS;
-use tree::extent::{Extent, is_tree};
+use tree::extent::is_tree;
 use tree::words::fits;
 
 // The lines of the three sections.
@@ -16,6 +18,7 @@ pub enum Form {
 }
 
 // The words of a line's head, the last of which is its count.
+#[tactic(auto, unfolding(crate::specs::Ends::head_words))]
 pub fn head_words(form: Form) -> usize
     ensures { result ≡ head_words form }
 {
@@ -27,6 +30,7 @@ pub fn head_words(form: Form) -> usize
 }
 
 // Where in the head the state stands: a type's rank stands before it.
+#[tactic(auto, unfolding(crate::specs::Ends::state_at))]
 fn state_at(form: Form) -> usize
     ensures { result ≡ state_at form }
 {
@@ -57,24 +61,26 @@ fn is_empty(form: Form, state: u32, kind: u32, count: u32) -> bool
 }
 
 // Where the nodes behind a line's head end. `empty`: whether the head may stand without nodes.
-fn nodes_end(sheet: &[u32], at: usize, state: u32, count: u32, empty: bool) -> Extent
+#[tactic(auto, using(crate::proofs::Ending::nodes))]
+fn nodes_end(sheet: &[u32], at: usize, state: u32, count: u32, empty: bool) -> Option<usize>
     ensures { result ≡ nodes_end sheet.now at state count empty }
 {
     if state == 0 {
         let nodes = count as usize;
         if is_tree(sheet, at, nodes) {
-            return Extent::Ends(at + nodes * NODE_WORDS);
+            return Some(at + nodes * NODE_WORDS);
         }
-        return Extent::Not;
+        return None;
     }
     if empty {
-        return Extent::Ends(at);
+        return Some(at);
     }
-    Extent::Not
+    None
 }
 
 // Where the line ends whose head lies up to a place.
-fn head_end(sheet: &[u32], form: Form, at: usize, from: usize) -> Extent
+#[tactic(auto, using(crate::proofs::Ending::heads))]
+fn head_end(sheet: &[u32], form: Form, at: usize, from: usize) -> Option<usize>
     requires { HeadThere form sheet.now at from }
     ensures { result ≡ head_end form sheet.now at }
 {
@@ -91,32 +97,32 @@ fn head_end(sheet: &[u32], form: Form, at: usize, from: usize) -> Extent
 }
 
 // Where the line at a place ends.
-pub fn line_end(sheet: &[u32], form: Form, at: usize) -> Extent
+#[tactic(auto, using(crate::proofs::Ending::ending))]
+pub fn line_end(sheet: &[u32], form: Form, at: usize) -> Option<usize>
     ensures { result ≡ line_end form sheet.now at }
 {
     let head = head_words(form);
     if fits(sheet.len(), at, head) {
         return head_end(sheet, form, at, at + head);
     }
-    Extent::Not
+    None
 }
 
 // Where so many lines end that begin at a place.
-pub fn lines_end(sheet: &[u32], form: Form, many: u32, at: usize) -> Extent
+#[tactic(auto, using(crate::proofs::Ending::sections))]
+pub fn lines_end(sheet: &[u32], form: Form, many: u32, at: usize) -> Option<usize>
     ensures { result ≡ lines_end form sheet.now many at }
 {
     let mut place = at;
-    for j in 0..many {
-        match line_end(sheet, form, place) {
-            Extent::Ends(e) => place = e,
-            Extent::Not => return Extent::Not,
-        }
+    for _ in 0..many {
+        place = line_end(sheet, form, place)?;
     }
-    Extent::Ends(place)
+    Some(place)
 }
 
 // Where a section ends whose count stands at a place, if the count is the file's.
-pub fn section_end(sheet: &[u32], form: Form, many: u32, at: usize) -> Extent
+#[tactic(auto, using(crate::proofs::Ending::sections))]
+pub fn section_end(sheet: &[u32], form: Form, many: u32, at: usize) -> Option<usize>
     ensures { result ≡ section_end form sheet.now many at }
 {
     if at < sheet.len() {
@@ -125,5 +131,5 @@ pub fn section_end(sheet: &[u32], form: Form, many: u32, at: usize) -> Extent
             return lines_end(sheet, form, many, at + 1);
         }
     }
-    Extent::Not
+    None
 }

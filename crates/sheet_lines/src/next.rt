@@ -1,6 +1,7 @@
 // From a line that is there to the next, by its count alone.
-ghost use Rattle.std.specs.Prelude.{◌≡◌, ◌+◌, ◌-◌, ◌*◌, get_or};
-ghost use Rattle.tree.specs.declared.extent.Extent.TheVariants as extent;
+#![tactic(auto, using(crate::proofs::Shapes::nexts))]
+
+ghost use Rattle.std.specs.Prelude.{◌≡◌, ◌+◌, ◌-◌, ◌*◌, get_or, Some};
 ghost use Rattle.sheet_lines.specs.Ends.{line_end};
 ghost use Rattle.sheet_lines.specs.There.{LineThere, NodesThere};
 
@@ -20,7 +21,7 @@ fn nodes_behind(sheet: &[u32], from: usize) -> usize
 // Where a line ends that is there: only a state 0 has nodes.
 pub fn next_line(sheet: &[u32], form: Form, at: usize) -> usize
     requires { LineThere form sheet.now at }
-    ensures { line_end form sheet.now at ≡ extent.Ends result }
+    ensures { line_end form sheet.now at ≡ Some result }
 {
     let from = at + head_words(form);
     nodes_behind(sheet, from)

@@ -38,7 +38,7 @@ first-is rank look.None = refl
 first-is rank look.TooLarge = refl
 first-is rank (look.Tree at n) = refl
 
-module _ {f source tables store : List ℕ} (k : Resolved f source tables store) where
+module _ {f tables store : List ℕ} (k : Resolved f tables store) where
   pub type-lies : (rank : ℕ → ℕ) (t : ℕ) → t < count f types → {line : Line} → line ≡ remembered_line (rank t) (remembered_of (index_in tables) store t) → LineLies (ranked_line f rank t) line store
   unfolding type_line
   type-lies rank t l e =

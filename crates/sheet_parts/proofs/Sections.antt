@@ -96,7 +96,7 @@ types-none f = record { is = λ rank. (section-starts (ranked_line f rank)).is; 
 pub types-all : {f : List ℕ} {t n m : ℕ} → TypesLong f t n → m ≡ count f types → t ≤ m → m ≤ t → TypesLong f (count f types) n
 types-all {f} {t} {n} x e g h = let k : t ≡ count f types = omega arith in subst (λ (j : ℕ). TypesLong f j n) k x
 
-module _ {f source tables store : List ℕ} (k : Resolved f source tables store) where
+module _ {f tables store : List ℕ} (k : Resolved f tables store) where
   pub tables-there : 1024 ≤ length tables
   tables-there = k.ready.tables
 

@@ -12,8 +12,8 @@ use Rattle.build.specs.Built.{index_in, Builds, Ready}
 use Rattle.driver.specs.Told.{Tells}
 
 -- every type's outcome is remembered, and a variable wants nothing
-pub record Resolved (f source tables store : List ℕ) : Type 0 where
-  pub ready : Ready f source tables store
+pub record Resolved (f tables store : List ℕ) : Type 0 where
+  pub ready : Ready f tables store
   pub typed : (t : ℕ) → t < count f types → Looks (remembered_of (index_in tables) store t) store (known (type_outcome f t))
   pub told : (v : ℕ) → v < count f variables → (old new : List ℕ) (made : Built) → Builds f tables store flatten (declaration f v) 0 old made new
       → Tells (variable_outcome f v) made new

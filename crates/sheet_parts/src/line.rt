@@ -1,4 +1,6 @@
 // One line of a sheet, and putting it into out.
+#![tactic(auto, using(crate::proofs::Lining::lining))]
+
 ghost use Rattle.std.specs.Prelude.{◌≡◌, ◌+◌, ◌*◌, ◌≤◌, length};
 ghost use Rattle.sheet_parts.specs.Line.{LineFits, value_in, line_in, empty_line, remembered_line, built_line};
 ghost use Rattle.laws.specs.Puts.{Puts};

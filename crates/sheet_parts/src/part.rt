@@ -1,9 +1,10 @@
 // The lines of a sheet: of a type, of a variable, and of a variable's completed initializer.
+#![tactic(auto, using(crate::proofs::Parts::parting))]
+
 ghost use Rattle.std.specs.Prelude.{◌≡◌, ◌≤◌, ◌<◌, length};
 ghost use Rattle.definition.specs.Layout as Layout;
 ghost use Rattle.definition.specs.Answers.{room_words};
 ghost use Rattle.definition.specs.Lines.{variable_line, completed_line};
-ghost use Rattle.records.specs.Starts.{StartsOf};
 ghost use Rattle.lines.specs.Look.{remembered_of};
 ghost use Rattle.build.specs.Built.{index_at, index_in};
 ghost use Rattle.sheet_parts.specs.Line.{ValueLies, LineLies, remembered_line};
@@ -16,6 +17,8 @@ use complete::completion::completion;
 use definition::layout::NODE_WORDS;
 use driver::work::variable;
 use lines::look::look_up;
+use records::file::File;
+use records::source::Source;
 
 pub fn type_line(known: &[u32], store: &[u32], rank: u32, t: u32) -> Line
     requires { index_at ≤ length known.now }
@@ -26,22 +29,21 @@ pub fn type_line(known: &[u32], store: &[u32], rank: u32, t: u32) -> Line
 
 // A variable's line, whose nodes are built in the room.
 pub fn variable_line(
-    file: &[u32],
-    source: &[usize],
+    file: &File<'_>,
     known: &[u32],
     store: &[u32],
     v: u32,
     room: &mut [u32],
 ) -> Line
-    requires { Resolved file.now source.now known.now store.now × (v < Layout.count file.now Layout.variables) × (room_words file.now ≤ length room.old) }
-    ensures { ValueLies (variable_line file.now v) result room.new }
+    requires { Resolved file.now.source known.now store.now × (v < Layout.count file.now.source Layout.variables) × (room_words file.now.source ≤ length room.old) }
+    ensures { ValueLies (variable_line file.now.source v) result room.new }
 {
-    built_line(variable(file, source, known, store, v, room))
+    built_line(variable(file, known, store, v, room))
 }
 
 // The line of a variable's completed initializer: the nodes of its own line are completed where they lie.
-pub fn completed_line(file: &[u32], source: &[usize], v: u32, line: Line, room: &mut [u32]) -> Line
-    requires { StartsOf file.now source.now × ValueLies (variable_line file.now v) line room.old }
+pub fn completed_line(file: &Source<'_>, v: u32, line: Line, room: &mut [u32]) -> Line
+    requires { ValueLies (variable_line file.now v) line room.old }
     ensures { LineLies (completed_line file.now v) result room.new }
 {
     if line.state != 0 {
@@ -49,7 +51,7 @@ pub fn completed_line(file: &[u32], source: &[usize], v: u32, line: Line, room: 
     }
     let at = line.at;
     let nodes = line.nodes;
-    match completion(file, source, v, room, at, at + nodes * NODE_WORDS) {
+    match completion(file, v, room, at, at + nodes * NODE_WORDS) {
         Completion::Completed(kind) => Line {
             first: 0,
             state: kind,

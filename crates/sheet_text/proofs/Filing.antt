@@ -9,17 +9,19 @@ use lib.ListN.{length, drop, length-append}
 use borrow.Author.Rules.{rules}
 use borrow.Author.Tests.{eq-eqb, ne_eqb, leb-true}
 use Rattle.definition.specs.Base.{pick, choose}
-use Rattle.definition.specs.declared.answers.SheetAnswer.{SheetAnswer}
-use Rattle.definition.specs.declared.answers.SheetAnswer.TheVariants.{Written, Refused}
+use Rattle.definition.specs.declared.answers.Refusal.{Refusal}
+use Rattle.definition.specs.declared.answers.Refusal.TheVariants as refusals
 use Rattle.definition.specs.Uses.{Ranking, ranked, circle, ranks_of, rank_at}
 use Rattle.definition.specs.Sheet.{sheet_with, on_ranking}
-use Rattle.definition.specs.Answers.{refuses, says, over, sheet_says, write_refused, written_answer, ranked_answer, ranked_out, write_answer, write_out}
+use Rattle.definition.specs.Answers.{refuses, says, number_of, over, sheet_says, words_say, write_refused, written_answer, ranked_answer, ranked_out, write_answer, write_out}
 use Rattle.definition.specs.Program.{lines_with, sheet_lines, lines_text, most_sheet_words, long_text, refused_text, file_text}
+use Rattle.std.specs.Prelude.{Result, Ok, Err}
 use Rattle.laws.specs.Puts.{Puts}
 use Rattle.laws.specs.Printing.{prints-sheet, prints-refusal, prints-10}
 use Rattle.text.specs.Forms.{sheet_form}
 use Rattle.text.specs.Printed.{SheetRoom}
 use Rattle.text.proofs.Reading.{sheet-reads}
+use Rattle.writer.proofs.Refusing.{admitted-none, admitted-not}
 use Rattle.sheet_text.specs.Texts.{most_text, TextRoom, Refuses}
 
 -- ---- a sheet that is written stands at the front of out
@@ -66,13 +68,13 @@ written_stands f old long lines room n e = rw long (go (eqb (write_refused f mos
     go false e = let z : ◌≡◌ {A = ℕ} 0 1 = cc in absurd (omega arith)
 
 -- ---- the writer's answer
-module _ (f old : List ℕ) (answer : SheetAnswer) (lines room : ℕ) (e : sheet_says answer ≡ write_answer f (length old) lines room) {text : ℕ} (x : TextRoom text (length old)) where
+module _ (f old : List ℕ) (answer : Result ℕ Refusal) (lines room : ℕ) (e : sheet_says answer ≡ write_answer f (length old) lines room) {text : ℕ} (x : TextRoom text (length old)) where
   at_most : sheet_says answer ≡ write_answer f most_sheet_words lines room
   at_most = e ∙ ap (λ (n : ℕ). write_answer f n lines room) x.words
 
-  module _ {out : List ℕ} (o : out ≡ write_out f old lines room) {n : ℕ} (i : answer ≡ Written n) where
+  module _ {out : List ℕ} (o : out ≡ write_out f old lines room) {n : ℕ} (i : answer ≡ Ok n) where
     answer-says : write_answer f most_sheet_words lines room ≡ says 0 (n ∷ [])
-    unfolding sheet_says
+    unfolding words_say
     answer-says = sym at_most ∙ ap sheet_says i
 
     stands : Stands f out
@@ -84,23 +86,44 @@ module _ (f old : List ℕ) (answer : SheetAnswer) (lines room : ℕ) (e : sheet
     pub sheet-put : {t : List ℕ} {r : ℕ} {new : List ℕ} → Puts (lines_text (sheet_form.lines out)) t 0 r new → Puts (file_text lines room f) t 0 r new
     sheet-put {t} {r} {new} p = subst (λ (l : List ℕ). Puts l t 0 r new) (ap lines_text (stands-lines stands) ∙ sym (prints-sheet f lines room 0 (n ∷ []) answer-says)) p
 
-  pub refuses-so : {n : ℕ} → answer ≡ Refused n → Refuses f n lines room
-  unfolding sheet_says
+  pub refuses-so : {r : Refusal} → answer ≡ Err r → Refuses f r lines room
+  unfolding words_say
   refuses-so i = record { says = sym at_most ∙ ap sheet_says i }
 
 -- ---- its refusals
-ten-is : {f : List ℕ} {n lines room : ℕ} → Refuses f n lines room → n ≡ 10 → file_text lines room f ≡ pick (eqb (write_refused f most_sheet_words lines room) 0) long_text (refused_text 10)
-ten-is {f} {n} {lines} {room} x e = prints-10 f lines room (x.says ∙ ap refuses e)
+short-is : (r : Refusal) → number_of r ≡ 10 → r ≡ refusals.Short
+unfolding number_of
+short-is refusals.Ends h = absurd (omega (arith, h))
+short-is refusals.Counts h = absurd (omega (arith, h))
+short-is refusals.Words h = absurd (omega (arith, h))
+short-is refusals.Points h = absurd (omega (arith, h))
+short-is refusals.Alike h = absurd (omega (arith, h))
+short-is refusals.Elements h = absurd (omega (arith, h))
+short-is refusals.Missing h = absurd (omega (arith, h))
+short-is refusals.Large h = absurd (omega (arith, h))
+short-is refusals.Circle h = absurd (omega (arith, h))
+short-is refusals.Short h = refl
+short-is refusals.Sections h = absurd (omega (arith, h))
+short-is refusals.Ranks h = absurd (omega (arith, h))
+short-is refusals.Lines h = absurd (omega (arith, h))
+short-is refusals.NotHeld h = absurd (omega (arith, h))
+short-is refusals.Wide h = absurd (omega (arith, h))
 
-module _ {f : List ℕ} {n lines room : ℕ} (x : Refuses f n lines room) {t : List ℕ} {r : ℕ} {new : List ℕ} where
-  module _ (e : n ≡ 10) {w : ℕ} (q : w ≡ write_refused f most_sheet_words lines room) where
-    pub long-printed : w ≡ 0 → Puts long_text t 0 r new → Puts (file_text lines room f) t 0 r new
-    long-printed z p = rw (ten-is x e, eq-eqb (write_refused f most_sheet_words lines room) 0 (sym q ∙ z)) p
+module _ {f : List ℕ} {refusal : Refusal} {lines room : ℕ} (x : Refuses f refusal lines room) where
+  module _ (e : refusal ≡ refusals.Short) where
+    ten-is : file_text lines room f ≡ pick (eqb (write_refused f most_sheet_words lines room) 0) long_text (refused_text 10)
+    unfolding number_of
+    ten-is = prints-10 f lines room (x.says ∙ ap (λ (s : Refusal). refuses (number_of s)) e)
 
-    pub ten-printed : (w ≡ 0 → ⊥) → Puts (refused_text n) t 0 r new → Puts (file_text lines room f) t 0 r new
-    ten-printed z p = rw (ten-is x e, ne_eqb (write_refused f most_sheet_words lines room) 0 (λ i. z (q ∙ i))) (subst (λ (k : ℕ). Puts (refused_text k) t 0 r new) e p)
+    pub long-printed : write_refused f most_sheet_words lines room ≡ 0 → {t : List ℕ} {r : ℕ} {new : List ℕ} → Puts long_text t 0 r new → Puts (file_text lines room f) t 0 r new
+    long-printed z {t} {r} {new} p = rw (ten-is, eq-eqb (write_refused f most_sheet_words lines room) 0 z) p
 
-  pub other-printed : (n ≡ 10 → ⊥) → Puts (refused_text n) t 0 r new → Puts (file_text lines room f) t 0 r new
-  other-printed z p = rw (prints-refusal f lines room n x.says (ne_eqb n 10 z)) p
+    pub ten-printed : (write_refused f most_sheet_words lines room ≡ 0 → ⊥) → {m : ℕ} → m ≡ number_of refusal → {t : List ℕ} {r : ℕ} {new : List ℕ} → Puts (refused_text m) t 0 r new → Puts (file_text lines room f) t 0 r new
+    unfolding number_of
+    ten-printed z {m} j {t} {r} {new} p = rw (ten-is, ne_eqb (write_refused f most_sheet_words lines room) 0 z) (subst (λ (k : ℕ). Puts (refused_text k) t 0 r new) (j ∙ ap number_of e) p)
 
-pub ruleset files = (rules, sheet-room, sheet-put, refuses-so, long-printed, ten-printed, other-printed)
+  pub other-printed : (refusal ≡ refusals.Short → ⊥) → {m : ℕ} → m ≡ number_of refusal → {t : List ℕ} {r : ℕ} {new : List ℕ} → Puts (refused_text m) t 0 r new → Puts (file_text lines room f) t 0 r new
+  other-printed z {m} j {t} {r} {new} p =
+      rw (prints-refusal f lines room (number_of refusal) x.says (ne_eqb (number_of refusal) 10 (λ k. z (short-is refusal k)))) (subst (λ (k : ℕ). Puts (refused_text k) t 0 r new) j p)
+
+pub ruleset files = (rules, sheet-room, sheet-put, refuses-so, admitted-none, admitted-not, long-printed, ten-printed, other-printed)

@@ -36,39 +36,43 @@ words-next bytes at h =
     rw (one at (omega arith), one (at + 1) (omega arith), p, one (at + 2) (omega arith), q, one (at + 3) (omega arith), r)
 
 -- ---- the loop
-pub record Filling (bytes old : List ℕ) (at i : ℕ) (words : List ℕ) : Type 0 where
-  pub putting : Putting (words_from bytes) old 0 (words_from (drop at bytes)) words i
-  pub left : ℕ
-  pub whole : length bytes ≡ at + left * 4
+-- the first i of so many words are read
+pub record Filling (bytes old : List ℕ) (count i : ℕ) (words : List ℕ) : Type 0 where
+  pub putting : Putting (words_from bytes) old 0 (words_from (drop (i * 4) bytes)) words i
+  pub whole : length bytes ≡ count * 4
+  pub most : i ≤ count
 
-pub filling-first : {bytes : List ℕ} (old : List ℕ) → WordRoom bytes (length old) → Filling bytes old 0 0 old
+pub filling-first : {bytes : List ℕ} (old : List ℕ) → WordRoom bytes (length old) → Filling bytes old (length bytes / 4) 0 old
 unfolding whole_words
 filling-first {bytes} old x =
     let e : length bytes % 4 ≡ 0 = eqb-true (length bytes % 4) 0 x.whole in
     record {
       putting = putting-first (words_from bytes) old 0 (omega (arith, x.room, words-few bytes));
-      left = length bytes / 4;
       whole = omega (arith, div-add-mod' (length bytes) 4);
+      most = omega arith;
     }
 
-module _ {bytes old : List ℕ} {at i : ℕ} {words : List ℕ} (x : Filling bytes old at i words) where
-  pub four-inside : at < length bytes → at + 4 ≤ length bytes
+module _ {bytes old : List ℕ} {count i : ℕ} {words : List ℕ} (x : Filling bytes old count i words) where
+  pub four-inside : i < count → i * 4 + 4 ≤ length bytes
   four-inside h = omega (arith, x.whole)
 
-  pub word_room : at < length bytes → i < length words
-  word_room h = omega (arith, x.putting.room, ap length (words-next bytes at (four-inside h)))
+  pub word_room : i < count → i < length words
+  word_room h = omega (arith, x.putting.room, ap length (words-next bytes (i * 4) (four-inside h)))
 
-  pub filling-more : at < length bytes → {w : ℕ} → w ≡ word_at bytes at → Filling bytes old (at + 4) (i + 1) (set words i w)
+  pub filling-more : i < count → {w : ℕ} → w ≡ word_at bytes (i * 4) → Filling bytes old count (i + 1) (set words i w)
   filling-more h {w} e =
-      let rest = words_from (drop (at + 4) bytes) in
+      let n : (i + 1) * 4 ≡ i * 4 + 4 = omega arith in
+      let rest = words_from (drop (i * 4 + 4) bytes) in
       record {
-        putting = putting-more x.putting (put_one words i w (word_room h)) rest (words-next bytes at (four-inside h) ∙ ap (λ (n : ℕ). n ∷ rest) (sym e));
-        left = x.left - 1;
-        whole = omega (arith, x.whole);
+        putting = rw n (putting-more x.putting (put_one words i w (word_room h)) rest (words-next bytes (i * 4) (four-inside h) ∙ ap (λ (n : ℕ). n ∷ rest) (sym e)));
+        whole = x.whole;
+        most = omega arith;
       }
 
-  pub filling-done : length bytes ≤ at → Puts (words_from bytes) old 0 i words
+  pub filling-done : count ≤ i → Puts (words_from bytes) old 0 count words
   unfolding words_from
-  filling-done h = putting-done x.putting (ap words_from (drop_of_length-le bytes h))
+  filling-done h =
+      let n : i ≡ count = omega (arith, x.most) in
+      rw n at (putting-done x.putting (ap words_from (drop_of_length-le bytes {i = i * 4} (omega (arith, x.whole, x.most)))))
 
 pub ruleset fills = (rules, filling-first, four-inside, word_room, filling-more, filling-done)

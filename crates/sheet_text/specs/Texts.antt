@@ -1,7 +1,8 @@
 -- A text at the front of a slice of bytes, and what is known on the way there.
 use Rattle.std.specs.Prelude.{◌≡◌, true, List, ℕ, ◌*◌, ◌≤◌, ◌<◌, leb, length}
 use Rattle.definition.specs.Base.{pick}
-use Rattle.definition.specs.Answers.{refuses, over, write_answer}
+use Rattle.definition.specs.declared.answers.Refusal.{Refusal}
+use Rattle.definition.specs.Answers.{refuses, number_of, over, write_answer}
 use Rattle.definition.specs.Program.{whole_words, most_sheet_words}
 
 -- ten digits at most for each word of a sheet, and the byte behind it
@@ -27,5 +28,5 @@ pub record TextRoom (text out : ℕ) : Type 0 where
   pub words : out ≡ most_sheet_words
 
 -- the writer's refusal
-pub record Refuses (f : List ℕ) (n lines room : ℕ) : Type 0 where
-  pub says : write_answer f most_sheet_words lines room ≡ refuses n
+pub record Refuses (f : List ℕ) (refusal : Refusal) (lines room : ℕ) : Type 0 where
+  pub says : write_answer f most_sheet_words lines room ≡ refuses (number_of refusal)

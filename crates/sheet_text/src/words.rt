@@ -1,4 +1,6 @@
 // A file's words from its bytes: four bytes a word, the low one first.
+#![tactic(auto, using(crate::proofs::Reading::fills))]
+
 ghost use Rattle.std.specs.Prelude.{◌≡◌, ◌+◌, ◌*◌, ◌^◌, ◌≤◌, ◌<◌, length, get_or};
 ghost use Rattle.definition.specs.Program.{words_from};
 ghost use Rattle.laws.specs.Puts.{Puts};
@@ -24,12 +26,9 @@ pub fn read_words(bytes: &[u8], words: &mut [u32]) -> usize
     requires { WordRoom bytes.now (length words.old) }
     ensures { Puts (words_from bytes.now) words.old 0 result words.new }
 {
-    let mut i: usize = 0;
-    let mut at: usize = 0;
-    while at < bytes.len() {
-        words[i] = word(bytes, at);
-        i += 1;
-        at += 4;
+    let count = bytes.len() / 4;
+    for i in 0..count {
+        words[i] = word(bytes, i * 4);
     }
-    i
+    count
 }

@@ -3,80 +3,32 @@
 // Prints how many answers were right, and for each that was not the numbers of its file and itself: 0 written, 1 checked, then the changes.
 #![tactic(auto)]
 
-ghost use Rattle.std.specs.Prelude.{◌<◌, ◌≤◌};
-
-use definition::answers::{CheckAnswer, SheetAnswer};
+use definition::answers::Refusal;
 use sheet::check::check_sheet;
 use std::io;
-use std::num::wrapping_add_u64;
-use vector_io::{Got, print_line, read_word, read_words};
+use vector_io::answers::{judged, replay};
+use vector_io::{next_word, read_counted};
 use writer::sheet::write_sheet;
 
 // More words than any stored file or sheet has.
 const MOST_WORDS: usize = 4096;
 // More files than are stored.
-const MOST_FILES: usize = 1000;
+const MOST_FILES: u32 = 1000;
 // Room of 30 levels: more than any stored file wants.
 const MOST_ROOM: usize = 737280;
 // What the words of the answer's slice are before a call.
 const LENT: u32 = 0xA5A5_A5A5;
 
-const NO_RANKS: u32 = 12;
-
-#[derive(Clone, Copy)]
-enum Replayed {
-    Right(u64),
-    End,
-}
-
-// The next word of the input, or 0 behind its end.
-fn next_word(rt: &impl Input) -> io::Result<u32> {
-    let got = read_word(rt)?;
-    match got {
-        Got::Word(w) => Ok(w),
-        Got::End => Ok(0),
-    }
-}
-
-fn fill(out: &mut [u32]) {
-    let mut i: usize = 0;
-    while i < out.len() {
-        out[i] = LENT;
-        i += 1;
-    }
-}
-
-// A word of a sheet, or what each word of the answer's slice was before the call.
-fn word_of(sheet: &[u32], i: usize) -> u32 {
-    if i < sheet.len() {
-        return sheet[i];
-    }
-    LENT
-}
-
 // The slice holds the sheet, and is what it was behind it.
 fn holds(out: &[u32], sheet: &[u32]) -> bool {
-    let mut i: usize = 0;
-    while i < out.len() {
-        if out[i] != word_of(sheet, i) {
-            return false;
-        }
-        i += 1;
-    }
-    true
+    out.starts_with(sheet) & out.iter().skip(sheet.len()).all(|word| *word == LENT)
 }
 
-fn is_written(answer: SheetAnswer, words: usize) -> bool {
+// Written with so many words, or refused with a number, which is not 0.
+fn is_answer(answer: Result<usize, Refusal>, refused: u32, words: usize) -> bool {
     match answer {
-        SheetAnswer::Written(n) => n == words,
-        SheetAnswer::Refused(_) => false,
-    }
-}
-
-fn is_refused(answer: SheetAnswer, number: u32) -> bool {
-    match answer {
-        SheetAnswer::Written(_) => false,
-        SheetAnswer::Refused(n) => n == number,
+        Ok(n) => (refused == 0) & (n == words),
+        Err(refusal) => refusal.number() == refused,
     }
 }
 
@@ -89,20 +41,16 @@ fn writes(
     lines: &mut [u32],
     room: &mut [u32],
 ) -> bool {
-    fill(out);
+    out.fill(LENT);
     let answer = write_sheet(file, out, lines, room);
-    if refused == 0 {
-        return is_written(answer, sheet.len()) & holds(&out[..], sheet);
-    }
-    let nothing = [0u32; 0];
-    is_refused(answer, refused) & holds(&out[..], &nothing)
+    let written = if refused == 0 { sheet } else { &[] };
+    is_answer(answer, refused, sheet.len()) & holds(out, written)
 }
 
 fn checks(file: &[u32], sheet: &[u32], expected: u32, room: &mut [u32]) -> bool {
-    let answer = check_sheet(file, sheet, room);
-    match answer {
-        CheckAnswer::Passes => expected == 0,
-        CheckAnswer::Refused(n) => n == expected,
+    match check_sheet(file, sheet, room) {
+        Ok(()) => expected == 0,
+        Err(refusal) => refusal.number() == expected,
     }
 }
 
@@ -121,141 +69,68 @@ fn change_checks(
     }
     let right = sheet[at];
     sheet[at] = word;
-    let is = checks(file, &sheet[..], expected, room);
+    let is = checks(file, sheet, expected, room);
     sheet[at] = right;
     Ok(is)
 }
 
-// 1 for a right answer; a wrong one is printed.
-fn judged(rt: &impl Print, right: bool, k: usize, number: u32) -> io::Result<u64> {
-    if right {
-        return Ok(1);
-    }
-    print_line(rt, k as u64)?;
-    print_line(rt, number as u64)?;
-    Ok(0)
-}
-
-fn replay_changes(
+fn replay_change(
     rt: &(impl Input + Print),
     file: &[u32],
-    k: usize,
+    k: u32,
+    number: u32,
     sheet: &mut [u32],
     room: &mut [u32],
-) -> io::Result<u64> {
-    let many = next_word(rt)?;
-    let mut right: u64 = 0;
-    let mut number: u32 = 0;
-    while number < many {
-        let is = change_checks(rt, file, sheet, room)?;
-        right = wrapping_add_u64(right, judged(rt, is, k, number)?);
-        number += 1;
-    }
-    Ok(right)
+) -> io::Result<Option<u64>> {
+    let is = change_checks(rt, file, sheet, room)?;
+    Ok(Some(judged(rt, is, format_args!("{k}\n{number}"))?))
 }
 
 // A sheet of a file in a circle has no ranks that rise.
 fn replay_sheet(
     rt: &(impl Input + Print),
     file: &[u32],
-    k: usize,
+    k: u32,
     refused: u32,
     sheet: &mut [u32],
     out: &mut [u32],
     lines: &mut [u32],
     room: &mut [u32],
 ) -> io::Result<u64> {
-    let written = writes(file, refused, &sheet[..], out, lines, room);
-    let expected = if refused == 0 { 0 } else { NO_RANKS };
-    let checked = checks(file, &sheet[..], expected, room);
-    let two = wrapping_add_u64(judged(rt, written, k, 0)?, judged(rt, checked, k, 1)?);
-    Ok(wrapping_add_u64(two, replay_changes(rt, file, k, sheet, room)?))
-}
-
-// The file and its sheet are the fronts of slices.
-fn replay_fronts(
-    rt: &(impl Input + Print),
-    words: &[u32],
-    file_words: usize,
-    k: usize,
-    refused: u32,
-    sheet: &mut [u32],
-    sheet_words: usize,
-    out: &mut [u32],
-    lines: &mut [u32],
-    room: &mut [u32],
-) -> io::Result<u64> {
-    if words.len() < file_words {
-        return Ok(0);
-    }
-    if sheet.len() < sheet_words {
-        return Ok(0);
-    }
-    let file = &words[..file_words];
-    replay_sheet(
-        rt,
-        file,
-        k,
-        refused,
-        &mut sheet[..sheet_words],
-        out,
-        lines,
-        room,
-    )
+    let written = writes(file, refused, sheet, out, lines, room);
+    let expected = if refused == 0 {
+        0
+    } else {
+        Refusal::Ranks.number()
+    };
+    let checked = checks(file, sheet, expected, room);
+    let first = judged(rt, written, format_args!("{k}\n0"))?;
+    let second = judged(rt, checked, format_args!("{k}\n1"))?;
+    let many = next_word(rt)?;
+    let changes = replay(
+        many,
+        |number| replay_change(rt, file, k, number, sheet, room),
+    )?;
+    Ok(first.wrapping_add(second).wrapping_add(changes))
 }
 
 fn replay_file(
     rt: &(impl Input + Print),
+    k: u32,
     words: &mut [u32],
     sheet: &mut [u32],
-    k: usize,
     out: &mut [u32],
     lines: &mut [u32],
     room: &mut [u32],
-) -> io::Result<Replayed> {
-    let first = read_word(rt)?;
-    let Got::Word(count) = first else {
-        return Ok(Replayed::End);
+) -> io::Result<Option<u64>> {
+    let Some(file) = read_counted(rt, words)? else {
+        return Ok(None);
     };
-    let file_words = count as usize;
-    if !read_words(rt, words, file_words)? {
-        return Ok(Replayed::End);
-    }
     let refused = next_word(rt)?;
-    let sheet_words = next_word(rt)? as usize;
-    if !read_words(rt, sheet, sheet_words)? {
-        return Ok(Replayed::End);
-    }
-    Ok(Replayed::Right(replay_fronts(
-        rt,
-        &words[..],
-        file_words,
-        k,
-        refused,
-        sheet,
-        sheet_words,
-        out,
-        lines,
-        room,
-    )?))
-}
-
-// The next file's number, or past the last where the input has ended.
-fn next(replayed: Replayed, k: usize) -> usize
-    requires { k < 1000 }
-    ensures { (k < result) × (result ≤ 1000) }
-{
-    match replayed {
-        Replayed::Right(_) => k + 1,
-        Replayed::End => MOST_FILES,
-    }
-}
-
-fn counted(replayed: Replayed) -> u64 {
-    match replayed {
-        Replayed::Right(n) => n,
-        Replayed::End => 0,
-    }
+    let Some(sheet) = read_counted(rt, sheet)? else {
+        return Ok(None);
+    };
+    Ok(Some(replay_sheet(rt, file, k, refused, sheet, out, lines, room)?))
 }
 
 fn replay_all(
@@ -266,14 +141,11 @@ fn replay_all(
     lines: &mut [u32],
     room: &mut [u32],
 ) -> io::Result<()> {
-    let mut right: u64 = 0;
-    let mut k = 0;
-    while k < MOST_FILES {
-        let replayed = replay_file(rt, words, sheet, k, out, lines, room)?;
-        right = wrapping_add_u64(right, counted(replayed));
-        k = next(replayed, k);
-    }
-    print_line(rt, right)
+    let right = replay(
+        MOST_FILES,
+        |k| replay_file(rt, k, words, sheet, out, lines, room),
+    )?;
+    rt.println(right)
 }
 
 fn main(rt: HostRuntime) -> io::Result<()> {

@@ -5,7 +5,9 @@ use mathlib.Core.List.{List, [], ◌∷◌}
 use Prim.Native.Nat.{ℕ, ◌*◌, ◌≤◌}
 use native.Mathlib.Omega.{arith}
 use lib.Dec.{eqb, leb}
-use Rattle.definition.specs.declared.answers.CompletedAnswer.{CompletedAnswer}
+use Rattle.std.specs.Prelude.{Option, Some, None, Result, Ok, Err}
+use Rattle.definition.specs.declared.answers.Refusal.{Refusal}
+use Rattle.definition.specs.declared.answers.Slot.{Slot}
 use Rattle.definition.specs.Base.{pick, choose}
 use Rattle.definition.specs.Tree.{Tree, nodes, node_words, most_nodes}
 use Rattle.definition.specs.Ask.{ok, none, large, Outcome}
@@ -44,8 +46,8 @@ module _ (f : List ℕ) (v out kind n : ℕ) where
       go true q = outcome-few (variable_outcome f v) (variable-small f v) q
       go false q = let z : ◌≡◌ {A = ℕ} 0 1 = cc in absurd (omega arith)
 
-pub answer-counted : (f : List ℕ) (v out lines room : ℕ) {a : CompletedAnswer} → completed_says a ≡ completed_answer f v out lines room → Counted a
+pub answer-counted : (f : List ℕ) (v out lines room : ℕ) {a : Result (Option Slot) Refusal} → completed_says a ≡ completed_answer f v out lines room → Counted a
 unfolding completed_says
-answer-counted f v out lines room e = record { few = λ kind n q. answer-few f v out kind n lines room (ap completed_says (sym q) ∙ e) }
+answer-counted f v out lines room e = record { few = λ slot q. answer-few f v out slot.kind slot.nodes lines room (ap completed_says (sym q) ∙ e) }
 
-pub ruleset completed-numbers = (numbers, answer-counted)
+pub ruleset completed_numbers = (numbers, answer-counted)

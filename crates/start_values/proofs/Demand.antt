@@ -11,25 +11,24 @@ use lib.Dec.{eqb, leb}
 use lib.ListN.{length, take, drop}
 use lib.Seq.{take-append_seam}
 use borrow.Author.Tests.{eqb-true, eqb-false, eq-eqb}
-use Rattle.definition.specs.declared.answers.SheetAnswer.{SheetAnswer}
-use Rattle.definition.specs.declared.answers.SheetAnswer.TheVariants as writing
-use Rattle.definition.specs.declared.answers.CheckAnswer.{CheckAnswer}
-use Rattle.definition.specs.declared.answers.CheckAnswer.TheVariants as checking
+use Rattle.std.specs.Prelude.{Result, Ok, Err}
+use Rattle.definition.specs.declared.answers.Refusal.{Refusal}
+use Rattle.definition.specs.declared.answers.Refusal.TheVariants as refusal
 use Rattle.definition.specs.Base.{pick, choose}
 use Rattle.definition.specs.Layout.{count, types}
 use Rattle.definition.specs.Accept.{need, verdict, ends_right, counts_right, words_right, points_right, shapes_differ, arrays_small}
 use Rattle.definition.specs.Uses.{Ranking, ranked, circle, uses, ranks_of, rank_at}
 use Rattle.definition.specs.Sheet.{on_ranking, sheet_with, sheet_words}
-use Rattle.definition.specs.Answers.{refuses, says, over, room_words, sheet_says, check_says, enough_sheet, write_refused, written_answer, ranked_answer, ranked_out, write_answer, write_out, pass_answer}
+use Rattle.definition.specs.Answers.{refuses, says, number_of, over, room_words, words_say, sheet_says, check_says, enough_sheet, write_refused, written_answer, ranked_answer, ranked_out, write_answer, write_out, pass_answer}
 use Rattle.laws.specs.Ranks.{Lowest}
 use Rattle.laws.specs.Circles.{Circling}
 use Rattle.laws.specs.Passing.{Right}
 use Rattle.laws.specs.Demand.{passing, writer-lowest, writer-passes, writer-circle}
-use Rattle.sheet.proofs.Demand.{exactly-right, written-passes}
+use Rattle.sheet.proofs.Demand.{Checked, pass, exactly-right, written-passes}
 
 -- ---- the check
-module _ (f s : List ℕ) (room : ℕ) {r : CheckAnswer} (e : check_says r ≡ pass_answer f s room) (l : room_words f ≤ room) where
-  pub checked : (r ≡ checking.Passes) ↔ Right f s
+module _ (f s : List ℕ) (room : ℕ) {r : Checked} (e : check_says r ≡ pass_answer f s room) (l : room_words f ≤ room) where
+  pub checked : (r ≡ pass) ↔ Right f s
   checked = exactly-right f s room e l
 
 -- ---- the writer
@@ -138,10 +137,28 @@ module _ (f out : List ℕ) (lines room : ℕ) where
 sheet-right : (f : List ℕ) → verdict f ≡ 0 → (w : List ℕ) → ranks_of f ≡ ranked w → Right f (sheet_words f)
 sheet-right f a w q = (passing f (sheet_words f)).0 (writer-passes f a w q)
 
-only-9 : (r : SheetAnswer) → sheet_says r ≡ refuses 9 → r ≡ writing.Refused 9
-unfolding sheet_says
-only-9 (writing.Written n) h = let z : ◌≡◌ {A = ℕ} 0 1 = cc in absurd (omega arith)
-only-9 (writing.Refused n) h = let z : n ≡ 9 = cc in rw z
+circle-is : (r : Refusal) → number_of r ≡ 9 → r ≡ refusal.Circle
+unfolding number_of
+circle-is refusal.Ends h = absurd (omega (arith, h))
+circle-is refusal.Counts h = absurd (omega (arith, h))
+circle-is refusal.Words h = absurd (omega (arith, h))
+circle-is refusal.Points h = absurd (omega (arith, h))
+circle-is refusal.Alike h = absurd (omega (arith, h))
+circle-is refusal.Elements h = absurd (omega (arith, h))
+circle-is refusal.Missing h = absurd (omega (arith, h))
+circle-is refusal.Large h = absurd (omega (arith, h))
+circle-is refusal.Circle h = refl
+circle-is refusal.Short h = absurd (omega (arith, h))
+circle-is refusal.Sections h = absurd (omega (arith, h))
+circle-is refusal.Ranks h = absurd (omega (arith, h))
+circle-is refusal.Lines h = absurd (omega (arith, h))
+circle-is refusal.NotHeld h = absurd (omega (arith, h))
+circle-is refusal.Wide h = absurd (omega (arith, h))
+
+only-circle : (r : Result ℕ Refusal) → sheet_says r ≡ refuses 9 → r ≡ Err refusal.Circle
+unfolding words_say
+only-circle (Ok n) h = let z : ◌≡◌ {A = ℕ} 0 1 = cc in absurd (omega arith)
+only-circle (Err r) h = let z : number_of r ≡ 9 = cc in ap (λ (e : Refusal). Err e) (circle-is r z)
 
 -- ---- what a reader looks for
 -- a sheet of n words that was written
@@ -152,10 +169,10 @@ pub record Sheet (f new : List ℕ) (n : ℕ) : Type 0 where
   pub words : take n new ≡ sheet_with f (rank_at ranks)
   pub right : Right f (take n new)
 
-module _ (f out : List ℕ) (lines room : ℕ) {r : SheetAnswer} (e : sheet_says r ≡ write_answer f (length out) lines room) where
-  module _ {new : List ℕ} (i : new ≡ write_out f out lines room) (n : ℕ) (q : r ≡ writing.Written n) where
+module _ (f out : List ℕ) (lines room : ℕ) {r : Result ℕ Refusal} (e : sheet_says r ≡ write_answer f (length out) lines room) where
+  module _ {new : List ℕ} (i : new ≡ write_out f out lines room) (n : ℕ) (q : r ≡ Ok n) where
     said : says 0 (n ∷ []) ≡ write_answer f (length out) lines room
-    unfolding sheet_says
+    unfolding words_say
     said = ap sheet_says (sym q) ∙ e
 
     is : take n new ≡ sheet_words f
@@ -163,7 +180,7 @@ module _ (f out : List ℕ) (lines room : ℕ) {r : SheetAnswer} (e : sheet_says
     is = let x : Wrote f out lines room n = wrote f out lines room n said in rw (i, x.found) (wrote-out f out lines room x)
 
     -- the check passes it, with the room that it asks for
-    pub passes : (more : ℕ) → room_words f ≤ more → {a : CheckAnswer} → check_says a ≡ pass_answer f (take n new) more → a ≡ checking.Passes
+    pub passes : (more : ℕ) → room_words f ≤ more → {a : Checked} → check_says a ≡ pass_answer f (take n new) more → a ≡ pass
     passes more l h =
         let x : Wrote f out lines room n = wrote f out lines room n said in
         written-passes f (take n new) more h l (begun f (length out) lines room x.none) x.ranks x.found is
@@ -181,12 +198,12 @@ module _ (f out : List ℕ) (lines room : ℕ) {r : SheetAnswer} (e : sheet_says
         }
 
   -- 9 stands where uses run in a circle, and only there
-  pub circle-only : r ≡ writing.Refused 9 → Circling (count f types) (uses f)
-  unfolding sheet_says
+  pub circle-only : r ≡ Err refusal.Circle → Circling (count f types) (uses f)
+  unfolding number_of words_say
   circle-only q =
       let h : refuses 9 ≡ write_answer f (length out) lines room = ap sheet_says (sym q) ∙ e in
       (writer-circle f (circle-begun f out lines room h)).0 (circle-answer f out lines room h)
 
-  pub circle-refused : verdict f ≡ 0 → enough_sheet f (length out) lines room ≡ true → Circling (count f types) (uses f) → r ≡ writing.Refused 9
+  pub circle-refused : verdict f ≡ 0 → enough_sheet f (length out) lines room ≡ true → Circling (count f types) (uses f) → r ≡ Err refusal.Circle
   unfolding write_answer ranked_answer
-  circle-refused a l c = only-9 r (e ∙ rw (eq-eqb (write_refused f (length out) lines room) 0 (begins f (length out) lines room a l), (writer-circle f a).1 c))
+  circle-refused a l c = only-circle r (e ∙ rw (eq-eqb (write_refused f (length out) lines room) 0 (begins f (length out) lines room a l), (writer-circle f a).1 c))

@@ -1,4 +1,6 @@
 // A constant of a file as the node that it gives a place of one of the file's shapes, for C.
+#![tactic(auto, using(crate::proofs::Numbers::numbers))]
+
 ghost use Rattle.std.specs.Prelude.{◌≡◌, length};
 ghost use Rattle.definition.specs.Answers.{value_code};
 ghost use Rattle.conversion.specs.Convert.{convert_answer, convert_out};

@@ -1,12 +1,12 @@
 // The public functions, over numbers and slices; the crate start_values_c exports them for C and Rust to link. What each number says is `pass_code` and `value_code` of the definition (specs/Answers.antt).
-#![tactic(auto)]
+#![tactic(auto, using(crate::proofs::Numbers::numbers))]
 
 ghost use Rattle.std.specs.Prelude.{◌≡◌};
 ghost use Rattle.definition.specs.Answers.{accept_answer, words_answer, line_words, room_words, pass_code, value_code};
 
 use acceptance::accept::accept;
 use acceptance::work::{line_words, room_words};
-use codes::{acceptance_code, words_code};
+use codes::{pass_code, words_code};
 
 pub mod convert;
 pub mod sheets;
@@ -17,7 +17,7 @@ pub mod trees;
 pub fn wirkesu_accept(file: &[u32]) -> u32
     ensures { result ≡ pass_code (accept_answer file.now) }
 {
-    acceptance_code(accept(file))
+    pass_code(accept(file))
 }
 
 // How many words `lines` must have, or the file's refusal in the high word.

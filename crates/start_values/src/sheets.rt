@@ -1,8 +1,10 @@
 // Start sheets, written and checked, for C.
+#![tactic(auto, using(crate::proofs::Numbers::numbers))]
+
 ghost use Rattle.std.specs.Prelude.{◌≡◌, length};
 ghost use Rattle.definition.specs.Answers.{cleared, pass_code, value_code, write_answer, write_out, pass_answer};
 
-use codes::{check_code, sheet_code};
+use codes::{pass_code, words_code};
 use sheet::check::check_sheet;
 use writer::sheet::write_sheet;
 
@@ -20,7 +22,7 @@ pub fn wirkesu_write_sheet(
     ensures room { room.new ≡ cleared room.old }
 {
     let answer = write_sheet(file, out, lines, room);
-    sheet_code(answer)
+    words_code(answer)
 }
 
 // 0 for a sheet that passes, or its refusal; room ends as 0.
@@ -29,5 +31,5 @@ pub fn wirkesu_check_sheet(file: &[u32], sheet: &[u32], room: &mut [u32]) -> u32
     ensures room { room.new ≡ cleared room.old }
 {
     let answer = check_sheet(file, sheet, room);
-    check_code(answer)
+    pass_code(answer)
 }

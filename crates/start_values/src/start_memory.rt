@@ -1,4 +1,6 @@
 // Start memory, written and read, for C. A refusal stands in the high word. None and refusals leave bytes, nodes and characters as they were; lines and room end as 0.
+#![tactic(auto, using(crate::proofs::Numbers::numbers))]
+
 ghost use Rattle.std.specs.Prelude.{◌≡◌, length};
 ghost use Rattle.definition.specs.Answers.{cleared, value_code};
 ghost use Rattle.memory_definition.specs.Answers.{memory_code, write_memory_answer, write_memory_out, read_memory_answer, read_memory_nodes, read_memory_text};

@@ -1,5 +1,7 @@
 // Trees of types and of variables, and completed initializers, for C. A refusal stands in the high word. None, left and refusals leave out as it was; lines and room end
 // as 0.
+#![tactic(auto, using(crate::proofs::Numbers::numbers))]
+
 ghost use Rattle.std.specs.Prelude.{◌≡◌, length};
 ghost use Rattle.definition.specs.Answers.{cleared, value_code, type_tree_answer, type_tree_out, variable_tree_answer, variable_tree_out, completed_answer, completed_out};
 
@@ -42,6 +44,7 @@ pub fn wirkesu_variable_tree(
 }
 
 // The kind of a variable's completed initializer times 65,536, and the number of nodes in its slot, which stand at the front of out; 0 where it is left.
+#[tactic(auto, using(crate::proofs::Completing::completed_numbers))]
 pub fn wirkesu_completed(
     file: &[u32],
     number: u32,

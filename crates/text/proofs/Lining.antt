@@ -51,50 +51,70 @@ module _ (words : List ℕ) (i left : ℕ) (k : i + left ≤ length words) where
       let e : left ≡ 1 = omega arith in
       ap line_text (ap (λ (n : ℕ). take n (drop i words)) e ∙ front words i 1 (omega arith) (omega arith)) ∙ last-text (get_or words i 0)
 
--- ---- the loop
-pub record Lining (many : ℕ) (words old : List ℕ) (word byte i left : ℕ) (text : List ℕ) (end : ℕ) : Type 0 where
-  pub putting : Putting (line_text (take many (drop word words))) old byte (line_text (take left (drop i words))) text end
-  pub some : 0 < left
-  pub inside : i + left ≤ length words
-  pub passes : i + left ≡ word + many
+-- ---- the loop: the words from i up to the last are still to be put
+pub record Lining (many : ℕ) (words old : List ℕ) (at : Places) (i last : ℕ) (text : List ℕ) (end : ℕ) : Type 0 where
+  pub putting : Putting (line_text (take many (drop at.word words))) old at.byte (line_text (take (last + 1 - i) (drop i words))) text end
+  pub some : i ≤ last
+  pub inside : last < length words
+  pub passes : last + 1 ≡ at.word + many
 
-pub lining-first : {many : ℕ} {words : List ℕ} (old : List ℕ) {at : Places} → 0 < many → Printable (line_form many) words (length old) at → Lining many words old at.word at.byte at.word many old at.byte
-lining-first {many} {words} old {at} h x =
-    let line = take many (drop at.word words) in
-    record {
-      putting = putting-first (line_text line) old at.byte (omega (arith, x.room, ap length (one_line line)));
-      some = h;
-      inside = x.inside;
-      passes = refl;
-    }
+module _ {many : ℕ} {words : List ℕ} (old : List ℕ) {at : Places} (h : 0 < many) (x : Printable (line_form many) words (length old) at) where
+  pub lining-inside : at.word + many ≤ length words
+  lining-inside = x.inside
 
-module _ {many : ℕ} {words old : List ℕ} {word byte i left : ℕ} {text : List ℕ} {end : ℕ} (x : Lining many words old word byte i left text end) where
-  pub lining-inside : i < length words
-  lining-inside = omega (arith, x.some, x.inside)
-
-  pub more_room : 1 < left → end + length (decimal (get_or words i 0)) < length text
-  more_room h =
-      let n = get_or words i 0 in
-      omega (arith, x.putting.room, ap length (text-more words i left x.inside h), length-append (word_text n 32) (line_text (take (left - 1) (drop (i + 1) words))), length-append (decimal n) (32 ∷ []))
-
-  pub last-room : left ≤ 1 → end + length (decimal (get_or words i 0)) < length text
-  last-room h = omega (arith, x.putting.room, ap length (text-last words i left x.inside x.some h), length-append (decimal (get_or words i 0)) (10 ∷ []))
-
-  pub lining-more : 1 < left → {e : ℕ} {new : List ℕ} → Puts (word_text (get_or words i 0) 32) text end e new → Lining many words old word byte (i + 1) (left - 1) new e
-  lining-more h p =
+  pub lining-first : Lining many words old at at.word (at.word + many - 1) old at.byte
+  lining-first =
+      let line = take many (drop at.word words) in
+      let k : at.word + many - 1 + 1 - at.word ≡ many = omega arith in
       record {
-        putting = putting-more x.putting p (line_text (take (left - 1) (drop (i + 1) words))) (text-more words i left x.inside h);
+        putting = rw k (putting-first (line_text line) old at.byte (omega (arith, x.room, ap length (one_line line))));
         some = omega arith;
         inside = omega (arith, x.inside);
-        passes = omega (arith, x.passes);
+        passes = omega arith;
       }
 
-pub lining-last : {many : ℕ} {words old : List ℕ} (at : Places) {i left : ℕ} {text : List ℕ} {end : ℕ} → Lining many words old at.word at.byte i left text end → left ≤ 1
-    → {e : ℕ} {new : List ℕ} → Puts (word_text (get_or words i 0) 10) text end e new → Printed (line_form many) words old at (record { word = i + 1; byte = e }) new
-lining-last {many} {words} at {i} {left} x h p =
-    record {
-      passes = omega (arith, x.passes, x.some);
-      puts = rw (one_line (take many (drop at.word words))) (putting-last x.putting (rw (text-last words i left x.inside x.some h) p));
-    }
+module _ {many : ℕ} {words old : List ℕ} {at : Places} {i last : ℕ} {text : List ℕ} {end : ℕ} (x : Lining many words old at i last text end) where
+  all-inside : i + (last + 1 - i) ≤ length words
+  all-inside = omega (arith, x.some, x.inside)
 
-pub ruleset lining = (rules, puts_then, lining-first, lining-inside, more_room, last-room, lining-more, lining-last)
+  module _ (h : i < last) where
+    text_is : line_text (take (last + 1 - i) (drop i words)) ≡ word_text (get_or words i 0) 32 ++ line_text (take (last + 1 - (i + 1)) (drop (i + 1) words))
+    text_is =
+        let k : last + 1 - i - 1 ≡ last + 1 - (i + 1) = omega arith in
+        text-more words i (last + 1 - i) all-inside (omega arith) ∙ ap (λ (n : ℕ). word_text (get_or words i 0) 32 ++ line_text (take n (drop (i + 1) words))) k
+
+    pub word-inside : i < length words
+    word-inside = omega (arith, x.inside)
+
+    pub more_room : end + length (decimal (get_or words i 0)) < length text
+    more_room =
+        let n = get_or words i 0 in
+        omega (arith, x.putting.room, ap length text_is, length-append (word_text n 32) (line_text (take (last + 1 - (i + 1)) (drop (i + 1) words))), length-append (decimal n) (32 ∷ []))
+
+    pub lining-more : {e : ℕ} {new : List ℕ} → Puts (word_text (get_or words i 0) 32) text end e new → Lining many words old at (i + 1) last new e
+    lining-more p =
+        record {
+          putting = putting-more x.putting p (line_text (take (last + 1 - (i + 1)) (drop (i + 1) words))) text_is;
+          some = omega arith;
+          inside = x.inside;
+          passes = x.passes;
+        }
+
+  module _ (h : last ≤ i) where
+    last-is : line_text (take (last + 1 - i) (drop i words)) ≡ word_text (get_or words last 0) 10
+    last-is = let k : i ≡ last = omega (arith, x.some) in text-last words i (last + 1 - i) all-inside (omega (arith, x.some)) (omega (arith, x.some)) ∙ ap (λ (n : ℕ). word_text (get_or words n 0) 10) k
+
+    pub last-inside : last < length words
+    last-inside = x.inside
+
+    pub last-room : end + length (decimal (get_or words last 0)) < length text
+    last-room = omega (arith, x.putting.room, ap length last-is, length-append (decimal (get_or words last 0)) (10 ∷ []))
+
+    pub lining-last : {e : ℕ} {new : List ℕ} → Puts (word_text (get_or words last 0) 10) text end e new → Printed (line_form many) words old at (record { word = last + 1; byte = e }) new
+    lining-last p =
+        record {
+          passes = x.passes;
+          puts = rw (one_line (take many (drop at.word words))) (putting-last x.putting (rw last-is p));
+        }
+
+pub ruleset lining = (rules, puts_then, lining-inside, lining-first, word-inside, more_room, lining-more, last-inside, last-room, lining-last)

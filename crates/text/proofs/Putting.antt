@@ -1,11 +1,9 @@
 -- Bytes put one behind the other by a loop. Assumes nothing.
 use mathlib.Core.Path.{◌≡◌, ap, sym, subst}
-use mathlib.Core.List.{List, [], ◌∷◌, ◌++◌}
-use Prim.Native.Nat.{ℕ, ◌+◌, ◌≤◌, ◌<◌}
+use mathlib.Core.List.{List, [], ◌++◌}
+use Prim.Native.Nat.{ℕ, ◌+◌, ◌≤◌}
 use native.Mathlib.Omega.{arith}
-use native.Mathlib.Numerals.{add-one}
-use lib.ListN.{length, get_or, drop, length-append, drop_of_length-le}
-use lib.Seq.{drop-cons}
+use lib.ListN.{length, length-append}
 use borrow.Author.Rules.{rules}
 use Rattle.laws.specs.Puts.{Puts, puts_none, put_one, puts-long, puts_then}
 
@@ -31,15 +29,4 @@ module _ {whole old : List ℕ} {at : ℕ} {left text : List ℕ} {end : ℕ} (x
   pub putting-done : left ≡ [] → Puts whole old at end text
   putting-done i = x.goes end text (subst (λ (l : List ℕ). Puts l text end end text) (sym i) (puts_none text end (omega (arith, x.room))))
 
--- ---- the bytes of a slice
-module _ (bytes : List ℕ) (i : ℕ) {whole old : List ℕ} {at : ℕ} {text : List ℕ} {end : ℕ} (x : Putting whole old at (drop i bytes) text end) where
-  pub bytes-room : i < length bytes → end < length text
-  bytes-room h = omega (arith, x.room, ap length (drop-cons bytes i 0 h))
-
-  pub bytes-more : i < length bytes → {e : ℕ} {new : List ℕ} → Puts (get_or bytes i 0 ∷ []) text end e new → Putting whole old at (drop (i + 1) bytes) new e
-  bytes-more h p = putting-more x p (drop (i + 1) bytes) (rw (add-one i) (drop-cons bytes i 0 h))
-
-  pub bytes-done : length bytes ≤ i → Puts whole old at end text
-  bytes-done h = putting-done x (drop_of_length-le bytes h)
-
-pub ruleset puts = (rules, put_one, putting-first, bytes-room, bytes-more, bytes-done)
+pub ruleset puts = (rules, put_one)

@@ -87,22 +87,26 @@ module _ {whole : Form} {words old : List ℕ} {at : Places} {text : List ℕ} {
   pub printing-done : Printing whole words old at [] text here → Printed whole words old at here text
   printing-done x = x.goes here text (series-none (omega (arith, x.able.room)))
 
--- ---- so many times the same
-pub record Repeating (whole : Form) (words old : List ℕ) (at : Places) (p : Form) (k : ℕ) (text : List ℕ) (here : Places) : Type 0 where
-  pub printing : Printing whole words old at (replicate k p) text here
+-- ---- so many times the same, of which i are printed
+pub record Repeating (whole : Form) (words old : List ℕ) (at : Places) (p : Form) (k i : ℕ) (text : List ℕ) (here : Places) : Type 0 where
+  pub printing : Printing whole words old at (replicate (k - i) p) text here
 
-module _ {whole : Form} {words old : List ℕ} {at : Places} {p : Form} {k : ℕ} {text : List ℕ} {here : Places} (x : Repeating whole words old at p k text here) where
-  once : 0 < k → Printing whole words old at (p ∷ replicate (k - 1) p) text here
-  once h = let e : k ≡ suc (k - 1) = omega arith in subst (λ (n : ℕ). Printing whole words old at (replicate n p) text here) e x.printing
+module _ {whole : Form} {words old : List ℕ} {at : Places} {p : Form} {k : ℕ} where
+  repeating : Printing whole words old at (replicate k p) old at → Repeating whole words old at p k 0 old at
+  repeating x = let e : k ≡ k - 0 = omega arith in record { printing = subst (λ (n : ℕ). Printing whole words old at (replicate n p) old at) e x }
 
-  pub repeat-able : 0 < k → Printable p words (length text) here
-  repeat-able h = printing-able (once h)
+  module _ {i : ℕ} {text : List ℕ} {here : Places} (x : Repeating whole words old at p k i text here) where
+    once : i < k → Printing whole words old at (p ∷ replicate (k - (i + 1)) p) text here
+    once h = let e : k - i ≡ suc (k - (i + 1)) = omega arith in subst (λ (n : ℕ). Printing whole words old at (replicate n p) text here) e x.printing
 
-  pub repeat-more : 0 < k → {b : Places} {new : List ℕ} → Printed p words text here b new → Repeating whole words old at p (k - 1) new b
-  repeat-more h y = record { printing = printing-more (once h) y }
+    pub repeat-able : i < k → Printable p words (length text) here
+    repeat-able h = printing-able (once h)
 
-  pub repeat-done : k ≤ 0 → Printed whole words old at here text
-  repeat-done h = let e : k ≡ 0 = omega arith in printing-done (subst (λ (n : ℕ). Printing whole words old at (replicate n p) text here) e x.printing)
+    pub repeat-more : i < k → {b : Places} {new : List ℕ} → Printed p words text here b new → Repeating whole words old at p k (i + 1) new b
+    repeat-more h y = record { printing = printing-more (once h) y }
+
+    pub repeat-done : k ≤ i → Printed whole words old at here text
+    repeat-done h = let e : k - i ≡ 0 = omega arith in printing-done (subst (λ (n : ℕ). Printing whole words old at (replicate n p) text here) e x.printing)
 
 -- ---- nodes
 pub nodes-same : (k : ℕ) (words : List ℕ) → Same (nodes_form k) (series (replicate k (line_form 6))) words
@@ -110,8 +114,8 @@ unfolding node_lines lines_in long_in
 nodes-same zero words = record { lines = refl; long = refl }
 nodes-same (suc k) words = let e = nodes-same k (drop 6 words) in record { lines = rw e.lines; long = omega (arith, e.long) }
 
-pub nodes-first : {k : ℕ} {words : List ℕ} (old : List ℕ) {at : Places} → Printable (nodes_form k) words (length old) at → Repeating (nodes_form k) words old at (line_form 6) k old at
-nodes-first {k} {words} old {at} x = record { printing = printing-first old (replicate k (line_form 6)) (nodes-same k (drop at.word words)) x }
+pub nodes-first : {k : ℕ} {words : List ℕ} (old : List ℕ) {at : Places} → Printable (nodes_form k) words (length old) at → Repeating (nodes_form k) words old at (line_form 6) k 0 old at
+nodes-first {k} {words} old {at} x = repeating (printing-first old (replicate k (line_form 6)) (nodes-same k (drop at.word words)) x)
 
 -- ---- records, and a section of them
 pub record_same : (place : ℕ) (words : List ℕ) (i : ℕ) → Same (record_form place) (series (line_form (place + 1) ∷ nodes_form (get_or words (i + place) 0) ∷ [])) (drop i words)
@@ -162,8 +166,8 @@ module _ (place : ℕ) {words : List ℕ} (old : List ℕ) {at : Places} where
       pub section-done : {r : Places} {new : List ℕ} → Printed (records_form place (get_or words at.word 0)) words mid b r new → Printed (section_form place) words old at r new
       section-done z = printing-done (printing-more (printing-more count-printing y) z)
 
-pub records-first : (place k : ℕ) {words : List ℕ} (old : List ℕ) {at : Places} → Printable (records_form place k) words (length old) at → Repeating (records_form place k) words old at (record_form place) k old at
-records-first place k old x = record { printing = printing-first old (replicate k (record_form place)) (record { lines = refl; long = refl }) x }
+pub records-first : (place k : ℕ) {words : List ℕ} (old : List ℕ) {at : Places} → Printable (records_form place k) words (length old) at → Repeating (records_form place k) words old at (record_form place) k 0 old at
+records-first place k old x = repeating (printing-first old (replicate k (record_form place)) (record { lines = refl; long = refl }) x)
 
 pub ruleset repeats = (rules, nodes-first, records-first, repeat-able, repeat-more, repeat-done)
 

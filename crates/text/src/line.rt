@@ -1,4 +1,6 @@
 // A line: so many words, one space between two, and a line feed.
+#![tactic(auto, using(crate::proofs::Lining::lining))]
+
 ghost use Rattle.std.specs.Prelude.{[], ◌∷◌, ◌++◌, ◌+◌, ◌<◌, length};
 ghost use Rattle.definition.specs.Program.{decimal};
 ghost use Rattle.laws.specs.Puts.{Puts};
@@ -28,17 +30,14 @@ pub fn put_line(text: &mut [u8], at: Places, words: &[u32], many: usize) -> Plac
     requires { (0 < many) × Printable (line_form many) words.now (length text.old) at }
     ensures { Printed (line_form many) words.now text.old at result text.new }
 {
-    let mut i = at.word;
+    let last = at.word + many - 1;
     let mut end = at.byte;
-    let mut left = many;
-    while left > 1 {
+    for i in at.word..last {
         end = put_word(text, end, words[i], b' ');
-        i += 1;
-        left -= 1;
     }
-    end = put_word(text, end, words[i], b'\n');
+    end = put_word(text, end, words[last], b'\n');
     Places {
-        word: i + 1,
+        word: last + 1,
         byte: end,
     }
 }

@@ -1,4 +1,6 @@
 // A number in decimal, without leading zeros.
+#![tactic(auto, using(crate::proofs::Numbers::numbers))]
+
 ghost use Rattle.std.specs.Prelude.{◌≡◌, ◌+◌, ◌≤◌, ◌<◌, length};
 ghost use Rattle.definition.specs.Program.{digit as digit_byte, decimal};
 ghost use Rattle.laws.specs.Puts.{Puts};
@@ -6,6 +8,7 @@ ghost use Rattle.laws.specs.Puts.{Puts};
 use crate::put::put_byte;
 
 // The byte of a digit.
+#[tactic(auto, using(crate::proofs::Numbers::numbers), unfolding(definition::specs::Program::digit))]
 fn digit(d: u32) -> u8
     requires { d < 10 }
     ensures { result ≡ digit_byte d }

@@ -1,4 +1,6 @@
 // Bytes put into text at a place.
+#![tactic(auto, using(crate::proofs::Putting::puts))]
+
 ghost use Rattle.std.specs.Prelude.{[], ◌∷◌, ◌+◌, ◌≤◌, ◌<◌, length};
 ghost use Rattle.laws.specs.Puts.{Puts};
 
@@ -15,11 +17,7 @@ pub fn put_bytes(text: &mut [u8], at: usize, bytes: &[u8]) -> usize
     requires { at + length bytes.now ≤ length text.old }
     ensures { Puts bytes.now text.old at result text.new }
 {
-    let mut end = at;
-    let mut i = 0;
-    while i < bytes.len() {
-        end = put_byte(text, end, bytes[i]);
-        i += 1;
-    }
+    let end = at + bytes.len();
+    text[at..end].copy_from_slice(bytes);
     end
 }

@@ -1,4 +1,6 @@
 // A record: its head, whose last word is the number of its nodes, and its nodes, each on its own line.
+#![tactic(auto, using(crate::proofs::Series::records))]
+
 ghost use Rattle.std.specs.Prelude.{length};
 ghost use Rattle.text.specs.Forms.{nodes_form, record_form};
 ghost use Rattle.text.specs.Printed.{Printable, Printed};
@@ -6,15 +8,14 @@ ghost use Rattle.text.specs.Printed.{Printable, Printed};
 use crate::line::{Places, put_line};
 use definition::layout::NODE_WORDS;
 
+#[tactic(auto, using(crate::proofs::Series::repeats))]
 fn put_nodes(text: &mut [u8], at: Places, words: &[u32], nodes: u32) -> Places
     requires { Printable (nodes_form nodes) words.now (length text.old) at }
     ensures { Printed (nodes_form nodes) words.now text.old at result text.new }
 {
     let mut ends = at;
-    let mut left = nodes;
-    while left > 0 {
+    for _ in 0..nodes {
         ends = put_line(text, ends, words, NODE_WORDS);
-        left -= 1;
     }
     ends
 }

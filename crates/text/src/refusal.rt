@@ -1,4 +1,6 @@
 // What is printed in place of a sheet. A number has ten digits at most.
+#![tactic(auto, using(crate::proofs::Refusing::refusing))]
+
 ghost use Rattle.std.specs.Prelude.{◌≤◌, length};
 ghost use Rattle.definition.specs.Program.{long_text, refused_text};
 ghost use Rattle.laws.specs.Puts.{Puts};

@@ -1,4 +1,6 @@
 // The sections of a sheet: each its count, then so many records.
+#![tactic(auto, using(crate::proofs::Series::repeats))]
+
 ghost use Rattle.std.specs.Prelude.{length};
 ghost use Rattle.definition.specs.Program.{lines_text};
 ghost use Rattle.laws.specs.Puts.{Puts};
@@ -13,14 +15,13 @@ fn put_records(text: &mut [u8], at: Places, words: &[u32], place: usize, many: u
     ensures { Printed (records_form place many) words.now text.old at result text.new }
 {
     let mut ends = at;
-    let mut left = many;
-    while left > 0 {
+    for _ in 0..many {
         ends = put_record(text, ends, words, place);
-        left -= 1;
     }
     ends
 }
 
+#[tactic(auto, using(crate::proofs::Series::sections))]
 fn put_section(text: &mut [u8], at: Places, words: &[u32], place: usize) -> Places
     requires { Printable (section_form place) words.now (length text.old) at }
     ensures { Printed (section_form place) words.now text.old at result text.new }

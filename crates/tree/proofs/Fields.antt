@@ -9,21 +9,19 @@ use lib.Dec.{eqb, ltb}
 use lib.ListN.{length, get_or, drop}
 use lib.Seq.{get_or-drop}
 use borrow.Author.Tests.{le-leb, lt-ltb, le-ltb, eqb-true, ltb-true, ltb-false, eqb-false, ne_eqb}
+use Rattle.std.specs.Prelude.{Option, Some, None}
 use Rattle.definition.specs.Base.{pick, choose}
 use Rattle.definition.specs.Tree.{Tree, Trees, node, tnil, tcons, head, parts, many, nodes, nodes_in, flatten, flatten_all, named, join, rest, replaced}
 use Rattle.definition.specs.Ask.{Outcome, Ask, nothing}
 use Rattle.definition.specs.Parts.{on_named}
 use Rattle.definition.specs.Sheet.{parts_of}
 use Rattle.laws.specs.Whole.{Good, Goods, flatten-length, flatten_all-join, many-rest}
-use Rattle.tree.specs.declared.extent.Extent.TheVariants.{Ends}
-use Rattle.tree.specs.declared.node.NodeAt.TheVariants.{Is}
 use Rattle.tree.specs.declared.part.Value.TheVariants as value
-use Rattle.tree.specs.declared.part.Found.{Found}
-use Rattle.tree.specs.declared.part.Found.TheVariants.{At, Nothing}
+use Rattle.tree.specs.declared.extent.Span.{Span}
 use Rattle.tree.specs.Extent.{after_of}
 use Rattle.tree.specs.Words.{Stand}
 use Rattle.tree.specs.Node.{words_of, as_node, node_at}
-use Rattle.tree.specs.Part.{on_structure, value_of, value_at, seek, find_of, nth_of, part_of, value_is, place}
+use Rattle.tree.specs.Part.{on_structure, span, value_of, value_at, seek, find_of, nth_of, part_of, value_is, place}
 use Rattle.tree.proofs.Stands.{stand-rest, stand-front, stand-back}
 use Rattle.tree.proofs.Trees.{after-there, whole-there}
 
@@ -51,7 +49,7 @@ stands-long s at t e x = rw (flatten-length t) at x.long
 read-there : (s : List ℕ) (at : ℕ) (h : Tree) (e k : ℕ) → Stand s at (flatten h) e → get_or s (at + k) 0 ≡ get_or (flatten h ++ drop e s) k 0
 read-there s at h e k x = sym (get_or-drop at s k 0) ∙ ap (λ (l : List ℕ). get_or l k 0) (stand-rest x)
 
-pub node-there : (s : List ℕ) (at : ℕ) (t : Tree) (e : ℕ) → Stand s at (flatten t) e → node_at s at ≡ Is (as_node (head t))
+pub node-there : (s : List ℕ) (at : ℕ) (t : Tree) (e : ℕ) → Stand s at (flatten t) e → node_at s at ≡ Some (as_node (head t))
 unfolding flatten head
 node-there s at (node h ts) e x =
     let l : at + 6 ≤ length s = omega (arith, x.fits, (head-stands s at (node h ts) e x).fits) in
@@ -82,7 +80,7 @@ many-low : (kind low n : ℕ) → 13 ≤ kind → n ≡ parts_of kind low → n 
 unfolding parts_of
 many-low kind low n h e = rw (le-ltb kind 13 h) at e
 
-value-good : (t : Tree) → Good t → value_of (head t).kind (head t).low ≡ value_is t
+value-good : (t : Tree) → Good t → value_of (head t).kind (head t).low ≡ Some (value_is t)
 unfolding value_of value_is Good head
 value-good (node h ts) g =
     three h.kind g.0
@@ -90,7 +88,7 @@ value-good (node h ts) g =
     (λ e. rw (e, many-low h.kind h.low (many ts) (omega arith) g.1))
     (λ e. rw (e, many-low h.kind h.low (many ts) (omega arith) g.1))
 
-pub value_there : (s : List ℕ) (at : ℕ) (t : Tree) (e : ℕ) → Good t → Stand s at (flatten t) e → value_at s at ≡ value_is t
+pub value_there : (s : List ℕ) (at : ℕ) (t : Tree) (e : ℕ) → Good t → Stand s at (flatten t) e → value_at s at ≡ Some (value_is t)
 unfolding value_at
 value_there s at t e g x = rw (node-there s at t e x) (value-good t g)
 
@@ -99,24 +97,24 @@ pub kind-structure : (t : Tree) (n : ℕ) → Good t → value_is t ≡ value.St
 unfolding value_is Good head parts
 kind-structure (node h ts) n g q =
     three h.kind g.0
-    (λ l. let r = rw (lt-ltb h.kind 13 l) at q in let z : ◌≡◌ {A = ℕ} 0 1 = cc in absurd (omega arith))
-    (λ e. let r = rw e at q in let z : ◌≡◌ {A = ℕ} 0 1 = cc in absurd (omega arith))
+    (λ l. let r = rw (lt-ltb h.kind 13 l) at q in cc)
+    (λ e. let r = rw e at q in cc)
     (λ e. let r = rw e at q in (e, cc))
 
 pub kind-array : (t : Tree) (n : ℕ) → Good t → value_is t ≡ value.Array n → ((head t).kind ≡ 13) × (many (parts t) ≡ n)
 unfolding value_is Good head parts
 kind-array (node h ts) n g q =
     three h.kind g.0
-    (λ l. let r = rw (lt-ltb h.kind 13 l) at q in let z : ◌≡◌ {A = ℕ} 0 1 = cc in absurd (omega arith))
+    (λ l. let r = rw (lt-ltb h.kind 13 l) at q in cc)
     (λ e. let r = rw e at q in (e, cc))
-    (λ e. let r = rw e at q in let z : ◌≡◌ {A = ℕ} 0 1 = cc in absurd (omega arith))
+    (λ e. let r = rw e at q in cc)
 
 pub kind-leaf : (t : Tree) → Good t → value_is t ≡ value.Leaf → (head t).kind < 13
 unfolding value_is Good head
 kind-leaf (node h ts) g q =
     three h.kind g.0 (λ l. l)
-    (λ e. let r = rw e at q in let z : ◌≡◌ {A = ℕ} 0 1 = cc in absurd (omega arith))
-    (λ e. let r = rw e at q in let z : ◌≡◌ {A = ℕ} 0 1 = cc in absurd (omega arith))
+    (λ e. let r = rw e at q in cc)
+    (λ e. let r = rw e at q in cc)
 
 -- ---- finding
 pub seek-there : (s : List ℕ) (name : ℕ) (ts : Trees) (at e : ℕ) → Goods ts → Stand s at (flatten_all ts) e → seek s name (many ts) at ≡ place name at ts
@@ -129,11 +127,11 @@ seek-there s name (tcons (node h us) ts) at e g x =
     rw (whole-there s at (node h us) (at + 6 * nodes (node h us)) g.0 y, n, seek-there s name ts (at + 6 * nodes (node h us)) e g.1 (others-stand s at (node h us) ts e x))
 
 -- the first field of a name, in a structure; nothing in any other value
-unfoldable pub field_at : ℕ → ℕ → Tree → Found
-field_at name at t = pick (eqb (head t).kind 14) (place name (at + 6) (parts t)) Nothing
+unfoldable pub field_at : ℕ → ℕ → Tree → Option Span
+field_at name at t = pick (eqb (head t).kind 14) (place name (at + 6) (parts t)) None
 
 find-kinds : (s : List ℕ) (name at e : ℕ) (t : Tree) → Good t → Stand s (at + 6) (flatten_all (parts t)) e
-    → on_structure (value_is t) (λ n. seek s name n (at + 6)) Nothing ≡ field_at name at t
+    → on_structure (Some (value_is t)) (λ n. seek s name n (at + 6)) None ≡ field_at name at t
 unfolding value_is field_at head parts Good
 find-kinds s name at e (node h ts) g x =
     three h.kind g.0
@@ -145,48 +143,49 @@ pub find-there : (s : List ℕ) (at : ℕ) (t : Tree) (e name : ℕ) → Good t 
 unfolding find_of
 find-there s at t e name g x = rw (value_there s at t e g x) (find-kinds s name at e t g (parts-stand s at t e x))
 
-pub found-place : (s : List ℕ) (at : ℕ) (t : Tree) (e name b c : ℕ) → Good t → Stand s at (flatten t) e → find_of s at name ≡ At b c
-    → ((head t).kind ≡ 14) × (place name (at + 6) (parts t) ≡ At b c)
+pub found-place : (s : List ℕ) (at : ℕ) (t : Tree) (e name : ℕ) (p : Span) → Good t → Stand s at (flatten t) e → find_of s at name ≡ Some p
+    → ((head t).kind ≡ 14) × (place name (at + 6) (parts t) ≡ Some p)
 unfolding field_at
-found-place s at t e name b c g x q = go (eqb (head t).kind 14) refl (sym (find-there s at t e name g x) ∙ q)
+found-place s at t e name p g x q = go (eqb (head t).kind 14) refl (sym (find-there s at t e name g x) ∙ q)
   where
-    go : (k : Bool) → eqb (head t).kind 14 ≡ k → pick k (place name (at + 6) (parts t)) Nothing ≡ At b c → ((head t).kind ≡ 14) × (place name (at + 6) (parts t) ≡ At b c)
+    go : (k : Bool) → eqb (head t).kind 14 ≡ k → pick k (place name (at + 6) (parts t)) None ≡ Some p → ((head t).kind ≡ 14) × (place name (at + 6) (parts t) ≡ Some p)
     go true k r = (eqb-true (head t).kind 14 k, r)
-    go false k r = let z : ◌≡◌ {A = ℕ} 0 1 = cc in absurd (omega arith)
+    go false k r = cc
 
 -- the definition asks for no field that is not there
-pub place_none : (name at : ℕ) (ts : Trees) → place name at ts ≡ Nothing → (go : Tree → Ask Outcome) → on_named name ts go ≡ nothing
+pub place_none : (name at : ℕ) (ts : Trees) → place name at ts ≡ None → (go : Tree → Ask Outcome) → on_named name ts go ≡ nothing
 unfolding place on_named
 place_none name at tnil q go = refl
 place_none name at (tcons t ts) q go = by (eqb (head t).name name) q (λ r. place_none name (at + 6 * nodes t) ts r go)
   where
-    by : (c : Bool) → pick c (At at (at + 6 * nodes t)) (place name (at + 6 * nodes t) ts) ≡ Nothing → (place name (at + 6 * nodes t) ts ≡ Nothing → on_named name ts go ≡ nothing)
+    by : (c : Bool) → pick c (Some (span at (at + 6 * nodes t))) (place name (at + 6 * nodes t) ts) ≡ None → (place name (at + 6 * nodes t) ts ≡ None → on_named name ts go ≡ nothing)
         → choose c (λ v. go (named 0 t)) (λ v. on_named name ts go) ≡ nothing
-    by true r ih = let z : ◌≡◌ {A = ℕ} 0 1 = cc in absurd (omega arith)
+    by true r ih = cc
     by false r ih = ih r
 
 -- what was found is a part, and the one that the definition asks for
-pub record Named (name at : ℕ) (ts : Trees) (b e : ℕ) : Type 0 where
+pub record Named (name at : ℕ) (ts : Trees) (x : Span) : Type 0 where
   pub front : Trees
   pub part : Tree
   pub back : Trees
   pub is : ts ≡ join front (tcons part back)
-  pub begins : b ≡ at + 6 * nodes_in front
-  pub ends : e ≡ b + 6 * nodes part
+  pub begins : x.begin ≡ at + 6 * nodes_in front
+  pub ends : x.end ≡ x.begin + 6 * nodes part
   pub is_named : (head part).name ≡ name
   pub gives : (u : Tree) → replaced name u ts ≡ join front (tcons u back)
   pub asked : (go : Tree → Ask Outcome) → on_named name ts go ≡ go (named 0 part)
 
-pub place-named : (name at : ℕ) (ts : Trees) (b e : ℕ) → place name at ts ≡ At b e → Named name at ts b e
+pub place-named : (name at : ℕ) (ts : Trees) (x : Span) → place name at ts ≡ Some x → Named name at ts x
 unfolding place replaced join nodes on_named
-place-named name at tnil b e q = let z : ◌≡◌ {A = ℕ} 0 1 = cc in absurd (omega arith)
-place-named name at (tcons t ts) b e q = go (eqb (head t).name name) refl q (place-named name (at + 6 * nodes t) ts b e)
+place-named name at tnil x q = cc
+place-named name at (tcons t ts) x q = go (eqb (head t).name name) refl q (place-named name (at + 6 * nodes t) ts x)
   where
-    go : (c : Bool) → eqb (head t).name name ≡ c → pick c (At at (at + 6 * nodes t)) (place name (at + 6 * nodes t) ts) ≡ At b e
-        → (place name (at + 6 * nodes t) ts ≡ At b e → Named name (at + 6 * nodes t) ts b e) → Named name at (tcons t ts) b e
+    go : (c : Bool) → eqb (head t).name name ≡ c → pick c (Some (span at (at + 6 * nodes t))) (place name (at + 6 * nodes t) ts) ≡ Some x
+        → (place name (at + 6 * nodes t) ts ≡ Some x → Named name (at + 6 * nodes t) ts x) → Named name at (tcons t ts) x
     go true c f ih =
-        let i : at ≡ b = cc in
-        let j : at + 6 * nodes t ≡ e = cc in
+        let z : span at (at + 6 * nodes t) ≡ x = cc in
+        let i : at ≡ x.begin = ap (λ (y : Span). y.begin) z in
+        let j : at + 6 * nodes t ≡ x.end = ap (λ (y : Span). y.end) z in
         record { front = tnil; part = t; back = ts; is = refl; begins = omega arith; ends = omega arith; is_named = eqb-true (head t).name name c; gives = λ u. rw c; asked = λ g. rw c }
     go false c f ih =
         let n = ih f in
@@ -204,15 +203,14 @@ place-named name at (tcons t ts) b e q = go (eqb (head t).name name) refl q (pla
 
 -- ---- by number
 pub record Nth (s : List ℕ) (from i : ℕ) (t : Tree) : Type 0 where
-  pub begin : ℕ
-  pub end : ℕ
-  pub is : nth_of s from i ≡ At begin end
-  pub stands : Stand s begin (flatten t) end
+  pub at : Span
+  pub is : nth_of s from i ≡ Some at
+  pub stands : Stand s at.begin (flatten t) at.end
   pub good : Good t
 
-nth-by : (s : List ℕ) (from i : ℕ) (t : Tree) (b e : ℕ) → after_of s from i ≡ Ends b → Good t → Stand s b (flatten t) e → Nth s from i t
+nth-by : (s : List ℕ) (from i : ℕ) (t : Tree) (b e : ℕ) → after_of s from i ≡ Some b → Good t → Stand s b (flatten t) e → Nth s from i t
 unfolding nth_of
-nth-by s from i t b e q g x = record { begin = b; end = e; is = rw (q, whole-there s b t e g x); stands = x; good = g }
+nth-by s from i t b e q g x = record { at = span b e; is = rw (q, whole-there s b t e g x); stands = x; good = g }
 
 -- the first so many, and the rest
 record Parted (i : ℕ) (ts : Trees) : Type 0 where
@@ -236,7 +234,7 @@ goods-parted (tcons t f) us g = let k = goods-parted f us g.1 in ((g.0, k.0), k.
 -- the rest stands behind the first so many
 pub record Rest (s : List ℕ) (from i : ℕ) (us : Trees) (e : ℕ) : Type 0 where
   pub begin : ℕ
-  pub is : after_of s from i ≡ Ends begin
+  pub is : after_of s from i ≡ Some begin
   pub stands : Stand s begin (flatten_all us) e
   pub good : Goods us
 
@@ -270,6 +268,6 @@ pub part-there : (s : List ℕ) (at : ℕ) (t : Tree) (e i : ℕ) → Good t →
 unfolding part_of Good parts head
 part-there s at (node h ts) e i g x l = rw (node-there s at (node h ts) e x, ← g.1, lt-ltb i (many ts) l)
 
-pub part-past-there : (s : List ℕ) (at : ℕ) (t : Tree) (e i : ℕ) → Good t → Stand s at (flatten t) e → many (parts t) ≤ i → part_of s at i ≡ Nothing
+pub part-past-there : (s : List ℕ) (at : ℕ) (t : Tree) (e i : ℕ) → Good t → Stand s at (flatten t) e → many (parts t) ≤ i → part_of s at i ≡ None
 unfolding part_of Good parts head
 part-past-there s at (node h ts) e i g x l = rw (node-there s at (node h ts) e x, ← g.1, le-ltb i (many ts) l)

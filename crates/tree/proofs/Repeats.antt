@@ -1,8 +1,7 @@
 -- Words repeated: one move for each copy. Assumes nothing.
 use mathlib.Core.Path.{◌≡◌, refl, ap, sym, ◌∙◌}
-use mathlib.Core.Logic.{inr}
 use mathlib.Core.List.{List, [], ◌++◌, append_assoc, append-nil}
-use Prim.Native.Nat.{ℕ, zero, suc, ◌+◌, ◌*◌, ◌^◌, ◌≤◌, ◌<◌}
+use Prim.Native.Nat.{ℕ, zero, suc, ◌+◌, ◌*◌, ◌-◌, ◌^◌, ◌≤◌, ◌<◌}
 use native.Mathlib.Omega.{arith}
 use native.Mathlib.Numerals.{add-one}
 use native.Mathlib.Nat.{mul-le-mul_left, mul-add, mul-one, mul-zero, zero-mul, mul-suc}
@@ -11,7 +10,7 @@ use lib.Seq.{paste, paste-zero, length-paste, take_all, take-take, take-add, tak
 use mir.Syntax.{w64}
 use mir.Val.{Fits}
 use borrow.Author.Rules.{rules}
-use Rattle.tree.specs.Words.{Moves, rept}
+use Rattle.tree.specs.Words.{rept}
 
 pub rept-end : (k : ℕ) (w : List ℕ) → rept k w ++ w ≡ w ++ rept k w
 unfolding rept
@@ -28,40 +27,36 @@ module _ (old : List ℕ) (at count : ℕ) where
   run = take count (drop at old)
 
   -- i of so many copies stand there, and all else is as it was
-  pub record Repeating (times i to : ℕ) (out : List ℕ) : Type 0 where
+  pub record Repeating (times i : ℕ) (out : List ℕ) : Type 0 where
     pub some : 1 ≤ i
-    pub most : i ≤ times
-    pub place : to ≡ at + count * i
+    pub untouched : times ≡ 0 → out ≡ old
     pub long : length out ≡ length old
     pub is : out ≡ paste old at (rept i run) (count * i)
-
-pub repeat-none : (old : List ℕ) (at count : ℕ) {times : ℕ} → times ≡ 0 → old ≡ paste old at (rept times (take count (drop at old))) (count * times)
-unfolding rept
-repeat-none old at count z = rw (z, mul-zero) (paste-zero old at [])
 
 pub repeat-empty : (old : List ℕ) (at times : ℕ) {count : ℕ} → count ≡ 0 → old ≡ paste old at (rept times (take count (drop at old))) (count * times)
 repeat-empty old at times z = rw (z, zero-mul) (paste-zero old at (rept times []))
 
 -- one copy stands there
-pub repeat-first : (old : List ℕ) (at count times : ℕ) → (times ≡ 0 → ⊥) → Repeating old at count times 1 (at + count) old
+pub repeat-first : (old : List ℕ) (at count times : ℕ) → Repeating old at count times 1 old
 unfolding rept
-repeat-first old at count times z =
+repeat-first old at count times =
     let w : List ℕ = take count (drop at old) in
     let t : take count (take count (drop at old)) ≡ take count (drop at old) = take-take count count (drop at old) (omega arith) in
     record {
       some = omega arith;
-      most = omega arith;
-      place = omega (arith, mul-one count);
+      untouched = λ z. refl;
       long = refl;
       is = rw (mul-one, append-nil, t, ← take-add at count old) (sym (take-append-drop (at + count) old));
     }
 
-pub first_fits : (len at count times : ℕ) → at + count * times ≤ len → (times ≡ 0 → ⊥) → len < 2 ^ 64 → Fits w64 (at + count)
-first_fits len at count times h z l = let p : 1 ≤ times = omega arith in record { fits = omega (arith, mul-le-mul_left count p, mul-one count) }
-
-module _ {old : List ℕ} {at count times i to : ℕ} {out : List ℕ} (g : Repeating old at count times i to out) where
-  pub repeat-all : times ≤ i → out ≡ paste old at (rept times (take count (drop at old))) (count * times)
-  repeat-all h = let z : times ≡ i = omega arith in rw z g.is
+module _ {old : List ℕ} {at count times i : ℕ} {out : List ℕ} (g : Repeating old at count times i out) where
+  pub repeat-all : times ≤ i → (1 ≤ times → i ≤ times) → out ≡ paste old at (rept times (take count (drop at old))) (count * times)
+  unfolding rept
+  repeat-all h k = go times refl
+    where
+      go : (n : ℕ) → times ≡ n → out ≡ paste old at (rept n (take count (drop at old))) (count * n)
+      go zero e = g.untouched e ∙ rw mul-zero (paste-zero old at [])
+      go (suc n) e = let z : i ≡ suc n = omega arith in rw z at g.is
 
   module _ (m : at + count * times ≤ length old) (h : i < times) where
     -- the words of the copies that stand, and of the next
@@ -71,15 +66,21 @@ module _ {old : List ℕ} {at count times i to : ℕ} {out : List ℕ} (g : Repe
     words-one : count ≤ count * i
     words-one = omega (arith, mul-le-mul_left count g.some, mul-one count)
 
-    pub repeat-moves : Moves (length out) at count to
-    repeat-moves =
-        record { source = omega (arith, words-next, words-one); target = omega (arith, words-next); unread = inr (omega (arith, words-one)) }
+    pub run-room : at + count ≤ length out
+    run-room = omega (arith, words-next, words-one)
 
-    pub repeat-room : to + count ≤ length out
-    repeat-room = omega (arith, words-next)
+    pub next-room : at + count * i + (at + count - at) ≤ length out
+    next-room = omega (arith, words-next)
 
-    pub next_fits : length old < 2 ^ 64 → Fits w64 (to + count)
-    next_fits l = record { fits = omega (arith, words-next) }
+    module _ (l : length old < 2 ^ 64) where
+      pub run_fits : Fits w64 (at + count)
+      run_fits = record { fits = omega (arith, words-next, words-one) }
+
+      pub words_fits : Fits w64 (count * i)
+      words_fits = record { fits = omega (arith, words-next) }
+
+      pub next_fits : Fits w64 (at + count * i)
+      next_fits = record { fits = omega (arith, words-next) }
 
     run_long : length (run old at count) ≡ count
     run_long = length-take-le count (drop at old) (simp length-drop (omega (arith, words-next, words-one)))
@@ -87,11 +88,14 @@ module _ {old : List ℕ} {at count times i to : ℕ} {out : List ℕ} (g : Repe
     reps-long : length (rept i (run old at count)) ≡ count * i
     reps-long = length-rept i (run old at count) ∙ ap (λ (k : ℕ). k * i) run_long
 
+    abbrev to : ℕ
+    to = at + count * i
+
     out-is : out ≡ (take at old ++ rept i (run old at count)) ++ drop to old
-    out-is = g.is ∙ rw (take_all (count * i) (rept i (run old at count)) (omega (arith, reps-long)), g.place)
+    out-is = g.is ∙ rw (take_all (count * i) (rept i (run old at count)) (omega (arith, reps-long)))
 
     front_long : length (take at old ++ rept i (run old at count)) ≡ to
-    front_long = length-append (take at old) (rept i (run old at count)) ∙ omega (arith, reps-long, length-take-le at old (omega (arith, words-next)), g.place)
+    front_long = length-append (take at old) (rept i (run old at count)) ∙ omega (arith, reps-long, length-take-le at old (omega (arith, words-next)))
 
     first_run : (k : ℕ) → 1 ≤ k → (l : List ℕ) → take count (rept k (run old at count) ++ l) ≡ run old at count
     unfolding rept
@@ -111,21 +115,22 @@ module _ {old : List ℕ} {at count times i to : ℕ} {out : List ℕ} (g : Repe
         sym (drop-drop count to out) ∙ ap (drop count) (ap (drop to) out-is ∙ drop_at (take at old ++ rept i (run old at count)) (drop to old) to front_long) ∙ drop-drop count to old in
         e ∙ rw (a, b, source_is)
 
-    pub repeat-more : {s : List ℕ} → s ≡ paste out to (drop at out) count → Repeating old at count times (i + 1) (to + count) s
+    pub repeat-more : {s : List ℕ} → s ≡ paste out (at + count * i) (drop at out) (at + count - at) → Repeating old at count times (i + 1) s
     unfolding rept
-    repeat-more {s} e =
+    repeat-more {s} c =
+        let z : at + count - at ≡ count = omega arith in
+        let e : s ≡ paste out to (drop at out) count = rw z at c in
         let n : count * suc i ≡ count * i + count = mul-suc count i ∙ omega arith in
-        let p : to + count ≡ at + count * suc i = omega (arith, g.place) in
+        let p : to + count ≡ at + count * suc i = omega arith in
         let r : length (rept (suc i) (run old at count)) ≡ count * suc i = length-rept (suc i) (run old at count) ∙ ap (λ (k : ℕ). k * suc i) run_long in
         rw add-one (record {
           some = omega arith;
-          most = omega arith;
-          place = p;
-          long = ap length e ∙ length-paste out to (drop at out) count repeat-room (simp length-drop (omega (arith, words-next, words-one))) ∙ g.long;
+          untouched = λ (q : times ≡ 0). absurd (omega arith);
+          long = ap length e ∙ length-paste out to (drop at out) count (omega (arith, next-room)) (simp length-drop (omega (arith, words-next, words-one))) ∙ g.long;
           is =
               target_is e
               ∙ rw (append_assoc (take at old) (rept i (run old at count)) (run old at count), rept-end i (run old at count), p)
               (ap (λ (l : List ℕ). (take at old ++ l) ++ drop (at + count * suc i) old) (sym (take_all (count * suc i) (rept (suc i) (run old at count)) (omega (arith, r)))));
         })
 
-pub ruleset repeats = (rules, repeat-none, repeat-empty, repeat-first, repeat-all, repeat-moves, first_fits, next_fits, repeat-more)
+pub ruleset repeats = (rules, repeat-empty, repeat-first, repeat-all, run-room, next-room, run_fits, words_fits, next_fits, repeat-more)

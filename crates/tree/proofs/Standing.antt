@@ -7,10 +7,9 @@ use native.Mathlib.Omega.{arith}
 use native.Mathlib.Nat.{add-zero}
 use lib.ListN.{length, take, drop, set, length-drop, length-set}
 use lib.Seq.{paste, take-paste, drop-paste, length-paste, take_at, take_all, take-take, drop-set-add, length-take-le}
+use Rattle.std.specs.Prelude.{Option, Some}
 use Rattle.definition.specs.Tree.{Tree, Trees, node, many, flatten, flatten_all, leaf, headed, named, times}
 use Rattle.laws.specs.Whole.{flatten_all-join}
-use Rattle.tree.specs.declared.extent.Extent.{Extent}
-use Rattle.tree.specs.declared.extent.Extent.TheVariants.{Ends}
 use Rattle.tree.specs.Words.{Stand, Wrote, rept}
 use Rattle.tree.specs.Node.{head_words}
 use Rattle.tree.proofs.Stands.{take-drop, stand-rest, rest-stand, stand-append, stand-kept, stand-behind, wrote-stand}
@@ -18,10 +17,10 @@ use Rattle.tree.proofs.Repeats.{length-rept}
 
 -- ---- what was written
 -- an answer that is an end: the test held, and the words are there
-pub wrote-so-is : (test : Bool) {old : List ℕ} {at : ℕ} {src : List ℕ} {n : ℕ} {r : Extent} {new : List ℕ} → Wrote test old at src n r new → {e : ℕ} → r ≡ Ends e
+pub wrote-so-is : (test : Bool) {old : List ℕ} {at : ℕ} {src : List ℕ} {n : ℕ} {r : Option ℕ} {new : List ℕ} → Wrote test old at src n r new → {e : ℕ} → r ≡ Some e
     → (test ≡ true) × (e ≡ at + n) × (new ≡ paste old at src n)
 wrote-so-is true q r = let z = q.says in (refl, cc, q.is)
-wrote-so-is false q r = let z = q.says in let i : ◌≡◌ {A = ℕ} 0 1 = cc in absurd (omega arith)
+wrote-so-is false q r = let z = q.says in cc
 
 module _ (old : List ℕ) (at : ℕ) (src : List ℕ) (n : ℕ) (h : at + n ≤ length old) (k : n ≤ length src) {new : List ℕ} (e : new ≡ paste old at src n) where
   pub paste-stands : Stand new at (take n src) (at + n)

@@ -11,9 +11,8 @@ use borrow.Author.Rules.{rules}
 use borrow.Author.Tests.{leb-true, leb-false, le-leb, lt-leb}
 use mir.Syntax.{w64}
 use mir.Val.{Fits}
-use Rattle.tree.specs.declared.extent.Extent.TheVariants.{Ends, Not}
+use Rattle.std.specs.Prelude.{Some, None}
 use Rattle.tree.specs.declared.node.Node.{Node}
-use Rattle.tree.specs.declared.node.NodeAt.TheVariants.{Is, Past}
 use Rattle.tree.specs.Words.{Wrote}
 use Rattle.tree.specs.Node.{node_of, node_at, Renamed}
 
@@ -50,24 +49,24 @@ nodes-fits at n {b} {len} e t h = let k : at + n * 6 ≤ len = test-le e t in re
 
 -- ---- where a test held or not
 module _ {test : Bool} {old : List ℕ} {at : ℕ} {src : List ℕ} {n : ℕ} {b : Bool} (e : b ≡ test) where
-  pub wrote_so : b ≡ true → {new : List ℕ} → new ≡ paste old at src n → Wrote test old at src n (Ends (at + n)) new
+  pub wrote_so : b ≡ true → {new : List ℕ} → new ≡ paste old at src n → Wrote test old at src n (Some (at + n)) new
   wrote_so t i = let k : test ≡ true = sym e ∙ t in record { says = rw k; is = rw k i }
 
-  pub wrote-not : b ≡ false → Wrote test old at src n Not old
+  pub wrote-not : b ≡ false → Wrote test old at src n None old
   wrote-not t = let k : test ≡ false = sym e ∙ t in record { says = rw k; is = rw k }
 
 -- the same, of two tests
 module _ (x y : Bool) {old : List ℕ} {at : ℕ} {src : List ℕ} {n : ℕ} {b : Bool} (e : b ≡ x) where
-  pub wrote-both : b ≡ true → {d : Bool} → d ≡ y → d ≡ true → {new : List ℕ} → new ≡ paste old at src n → Wrote (x && y) old at src n (Ends (at + n)) new
+  pub wrote-both : b ≡ true → {d : Bool} → d ≡ y → d ≡ true → {new : List ℕ} → new ≡ paste old at src n → Wrote (x && y) old at src n (Some (at + n)) new
   wrote-both t f u i =
       let k : x ≡ true = sym e ∙ t in
       let l : y ≡ true = sym f ∙ u in
       rw (k, l) (record { says = refl; is = i })
 
-  pub wrote-first : b ≡ false → Wrote (x && y) old at src n Not old
+  pub wrote-first : b ≡ false → Wrote (x && y) old at src n None old
   wrote-first t = let k : x ≡ false = sym e ∙ t in rw k (record { says = refl; is = refl })
 
-  pub wrote-second : b ≡ true → {d : Bool} → d ≡ y → d ≡ false → Wrote (x && y) old at src n Not old
+  pub wrote-second : b ≡ true → {d : Bool} → d ≡ y → d ≡ false → Wrote (x && y) old at src n None old
   wrote-second t f u =
       let k : x ≡ true = sym e ∙ t in
       let l : y ≡ false = sym f ∙ u in
@@ -75,10 +74,10 @@ module _ (x y : Bool) {old : List ℕ} {at : ℕ} {src : List ℕ} {n : ℕ} {b 
 
 -- ---- nodes
 module _ (s : List ℕ) (at : ℕ) {b : Bool} (e : b ≡ leb (at + 6) (length s)) where
-  pub node-is : b ≡ true → {r : Node} → r ≡ node_of s at → Is r ≡ node_at s at
+  pub node-is : b ≡ true → {r : Node} → r ≡ node_of s at → Some r ≡ node_at s at
   node-is t i = let k : leb (at + 6) (length s) ≡ true = sym e ∙ t in rw (k, i)
 
-  pub node-past : b ≡ false → Past ≡ node_at s at
+  pub node-past : b ≡ false → None ≡ node_at s at
   node-past t = let k : leb (at + 6) (length s) ≡ false = sym e ∙ t in rw k
 
 -- six stores

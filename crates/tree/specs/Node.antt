@@ -1,10 +1,8 @@
 -- Nodes in words, in the order of the definition's `flatten`.
-use Rattle.std.specs.Prelude.{◌≡◌, Bool, List, [], ◌∷◌, ℕ, ◌+◌, leb, length, get_or, set}
+use Rattle.std.specs.Prelude.{◌≡◌, Bool, List, [], ◌∷◌, ℕ, ◌+◌, leb, length, get_or, set, Option, Some, None}
 use Rattle.definition.specs.Base.{pick}
 use Rattle.definition.specs.Tree as tree
 use Rattle.tree.specs.declared.node.Node.{Node}
-use Rattle.tree.specs.declared.node.NodeAt.{NodeAt}
-use Rattle.tree.specs.declared.node.NodeAt.TheVariants.{Is, Past}
 
 abbrev pub words_of : Node → List ℕ
 words_of n = n.name ∷ n.kind ∷ n.sign ∷ n.low ∷ n.high ∷ n.width ∷ []
@@ -21,8 +19,8 @@ abbrev pub node_of : List ℕ → ℕ → Node
 node_of s at =
     record { name = get_or s at 0; kind = get_or s (at + 1) 0; sign = get_or s (at + 2) 0; low = get_or s (at + 3) 0; high = get_or s (at + 4) 0; width = get_or s (at + 5) 0 }
 
-abbrev pub node_at : List ℕ → ℕ → NodeAt
-node_at s at = pick (leb (at + 6) (length s)) (Is (node_of s at)) Past
+abbrev pub node_at : List ℕ → ℕ → Option Node
+node_at s at = pick (leb (at + 6) (length s)) (Some (node_of s at)) None
 
 -- the node at `at` is named, where there is one
 pub record Renamed (old : List ℕ) (at name : ℕ) (r : Bool) (new : List ℕ) : Type 0 where

@@ -1,11 +1,12 @@
 // Nodes: a name or 0, a kind, then a constant's four words.
+#![tactic(auto, using(crate::proofs::Writes::writes))]
+
 ghost use Rattle.std.specs.Prelude.{◌≡◌, ◌+◌, ◌≤◌, length};
 ghost use Rattle.std.proofs.Math.Seq.{paste};
 ghost use Rattle.definition.specs.Tree.{flatten, leaf};
 ghost use Rattle.tree.specs.Node.{node_of, node_at, words_of, head_words, Renamed};
 ghost use Rattle.tree.specs.Words.{WroteNode};
 
-use crate::extent::Extent;
 use crate::words::fits;
 use definition::layout::NODE_WORDS;
 
@@ -17,13 +18,6 @@ pub struct Node {
     pub low: u32,
     pub high: u32,
     pub width: u32,
-}
-
-// The node at a place, or that the words end before it does.
-#[derive(Clone, Copy)]
-pub enum NodeAt {
-    Is(Node),
-    Past,
 }
 
 fn get(s: &[u32], at: usize) -> Node
@@ -40,13 +34,14 @@ fn get(s: &[u32], at: usize) -> Node
     }
 }
 
-pub fn read(s: &[u32], at: usize) -> NodeAt
+// The node at a place, if the words do not end before it does.
+pub fn read(s: &[u32], at: usize) -> Option<Node>
     ensures { result ≡ node_at s.now at }
 {
     if fits(s.len(), at, NODE_WORDS) {
-        NodeAt::Is(get(s, at))
+        Some(get(s, at))
     } else {
-        NodeAt::Past
+        None
     }
 }
 
@@ -54,27 +49,23 @@ fn put(out: &mut [u32], at: usize, n: Node)
     requires { at + 6 ≤ length out.old }
     ensures { out.new ≡ paste out.old at (words_of n) 6 }
 {
-    out[at] = n.name;
-    out[at + 1] = n.kind;
-    out[at + 2] = n.sign;
-    out[at + 3] = n.low;
-    out[at + 4] = n.high;
-    out[at + 5] = n.width;
+    out[at..at + NODE_WORDS].copy_from_slice(&[n.name, n.kind, n.sign, n.low, n.high, n.width]);
 }
 
 // Writes a node where there is room, and answers where it ends.
-pub fn write(out: &mut [u32], at: usize, n: Node) -> Extent
+pub fn write(out: &mut [u32], at: usize, n: Node) -> Option<usize>
     ensures { WroteNode out.old at (words_of n) result out.new }
 {
     if fits(out.len(), at, NODE_WORDS) {
         put(out, at, n);
-        Extent::Ends(at + NODE_WORDS)
+        Some(at + NODE_WORDS)
     } else {
-        Extent::Not
+        None
     }
 }
 
 // A value without parts (kinds 0 to 12).
+#[tactic(auto, using(crate::proofs::Writes::writes), unfolding(definition::specs::Tree::flatten, definition::specs::Tree::leaf))]
 pub fn write_leaf(
     out: &mut [u32],
     at: usize,
@@ -83,7 +74,7 @@ pub fn write_leaf(
     low: u32,
     high: u32,
     width: u32,
-) -> Extent
+) -> Option<usize>
     ensures { WroteNode out.old at (flatten (leaf kind sign low high width)) result out.new }
 {
     write(
@@ -100,7 +91,7 @@ pub fn write_leaf(
     )
 }
 
-fn write_head(out: &mut [u32], at: usize, kind: u32, count: u32) -> Extent
+fn write_head(out: &mut [u32], at: usize, kind: u32, count: u32) -> Option<usize>
     ensures { WroteNode out.old at (head_words kind count) result out.new }
 {
     write(
@@ -118,14 +109,14 @@ fn write_head(out: &mut [u32], at: usize, kind: u32, count: u32) -> Extent
 }
 
 // The head of an array of so many values, which stand or will stand behind it.
-pub fn write_array(out: &mut [u32], at: usize, count: u32) -> Extent
+pub fn write_array(out: &mut [u32], at: usize, count: u32) -> Option<usize>
     ensures { WroteNode out.old at (head_words 13 count) result out.new }
 {
     write_head(out, at, 13, count)
 }
 
 // The head of a structure of so many fields, which stand or will stand behind it.
-pub fn write_structure(out: &mut [u32], at: usize, count: u32) -> Extent
+pub fn write_structure(out: &mut [u32], at: usize, count: u32) -> Option<usize>
     ensures { WroteNode out.old at (head_words 14 count) result out.new }
 {
     write_head(out, at, 14, count)

@@ -1,9 +1,11 @@
 // What kind of value a tree is, and its parts.
+#![tactic(auto, using(crate::proofs::Finds::finds), unfolding(crate::specs::Part::value_of, crate::specs::Part::value_at, crate::specs::Part::find_of, crate::specs::Part::nth_of, crate::specs::Part::part_of))]
+
 ghost use Rattle.std.specs.Prelude.{◌≡◌};
 ghost use Rattle.tree.specs.Part.{value_of, value_at, seek, find_of, nth_of, part_of};
 
-use crate::extent::{Extent, after, parts_of, whole};
-use crate::node::{NodeAt, read};
+use crate::extent::{Span, after, parts_of, whole};
+use crate::node::read;
 use definition::layout::NODE_WORDS;
 
 // A value's kind, with how many parts it has.
@@ -12,97 +14,71 @@ pub enum Value {
     Leaf,
     Array(u32),
     Structure(u32),
-    Not,
 }
 
-// Where a part begins and ends.
-#[derive(Clone, Copy)]
-pub enum Found {
-    At(usize, usize),
-    Nothing,
-}
-
-// What a node's words say. `Not` for a kind above 14.
-pub fn value_of(kind: u32, low: u32) -> Value
+// What a node's words say. Nothing for a kind above 14.
+pub fn value_of(kind: u32, low: u32) -> Option<Value>
     ensures { result ≡ value_of kind low }
 {
-    if kind < 13 {
-        return Value::Leaf;
-    }
     match kind {
-        13 => Value::Array(low),
-        14 => Value::Structure(low),
-        _ => Value::Not,
+        0..=12 => Some(Value::Leaf),
+        13 => Some(Value::Array(low)),
+        14 => Some(Value::Structure(low)),
+        _ => None,
     }
 }
 
-// The kind of the value at a place: `let Value::Structure(count) = .. else` takes a structure apart.
-pub fn value_at(s: &[u32], at: usize) -> Value
+// The kind of the value at a place: `let Some(Value::Structure(count)) = .. else` takes a structure apart.
+pub fn value_at(s: &[u32], at: usize) -> Option<Value>
     ensures { result ≡ value_at s.now at }
 {
-    match read(s, at) {
-        NodeAt::Is(n) => value_of(n.kind, n.low),
-        NodeAt::Past => Value::Not,
-    }
+    let n = read(s, at)?;
+    value_of(n.kind, n.low)
 }
 
 // The first of so many trees from a place on that has a name.
-pub fn find_from(s: &[u32], from: usize, count: u32, name: u32) -> Found
+pub fn find_from(s: &[u32], from: usize, count: u32, name: u32) -> Option<Span>
     ensures { result ≡ seek s.now name count from }
 {
-    let mut left = count;
     let mut at = from;
-    while left > 0 {
-        match whole(s, at) {
-            Extent::Ends(end) => {
-                if s[at] == name {
-                    return Found::At(at, end);
-                }
-                at = end;
-            }
-            Extent::Not => return Found::Nothing,
+    for _ in 0..count {
+        let end = whole(s, at)?;
+        if s[at] == name {
+            return Some(Span { begin: at, end });
         }
-        left -= 1;
+        at = end;
     }
-    Found::Nothing
+    None
 }
 
 // The first field of a structure that has a name; nothing for any other value.
-pub fn find(s: &[u32], at: usize, name: u32) -> Found
+pub fn find(s: &[u32], at: usize, name: u32) -> Option<Span>
     ensures { result ≡ find_of s.now at name }
 {
     let v = value_at(s, at);
-    let Value::Structure(count) = v else {
-        return Found::Nothing;
+    let Some(Value::Structure(count)) = v else {
+        return None;
     };
     find_from(s, at + NODE_WORDS, count, name)
 }
 
 // The tree behind so many others from a place on.
-pub fn nth(s: &[u32], from: usize, i: usize) -> Found
+pub fn nth(s: &[u32], from: usize, i: usize) -> Option<Span>
     ensures { result ≡ nth_of s.now from i }
 {
-    match after(s, from, i) {
-        Extent::Ends(at) => match whole(s, at) {
-            Extent::Ends(end) => Found::At(at, end),
-            Extent::Not => Found::Nothing,
-        },
-        Extent::Not => Found::Nothing,
-    }
+    let begin = after(s, from, i)?;
+    let end = whole(s, begin)?;
+    Some(Span { begin, end })
 }
 
 // A part of the tree at a place, by its number from 0.
-pub fn part(s: &[u32], at: usize, i: u32) -> Found
+pub fn part(s: &[u32], at: usize, i: u32) -> Option<Span>
     ensures { result ≡ part_of s.now at i }
 {
-    match read(s, at) {
-        NodeAt::Is(n) => {
-            if i < parts_of(n.kind, n.low) {
-                nth(s, at + NODE_WORDS, i as usize)
-            } else {
-                Found::Nothing
-            }
-        }
-        NodeAt::Past => Found::Nothing,
+    let n = read(s, at)?;
+    if i < parts_of(n.kind, n.low) {
+        nth(s, at + NODE_WORDS, i as usize)
+    } else {
+        None
     }
 }

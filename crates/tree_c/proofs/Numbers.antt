@@ -1,46 +1,33 @@
 -- The number of each answer. Assumes nothing.
-use mathlib.Core.Path.{◌≡◌, refl, sym, ◌∙◌}
+use mathlib.Core.Path.{◌≡◌, refl, ap, ◌∙◌}
 use mathlib.Core.Bool.{Bool, true, false}
 use mathlib.Core.List.{List}
 use Prim.Native.Nat.{ℕ, ◌+◌}
-use native.Mathlib.Omega.{arith}
 use borrow.Author.Rules.{rules}
+use Rattle.std.specs.Prelude.{Option, Some, None, Result, Ok, Err}
+use Rattle.std.specs.Option.{unwrap_or}
+use Rattle.std.specs.Result.{result_unwrap_or}
 use Rattle.definition.specs.Base.{pick}
-use Rattle.tree.specs.declared.extent.Extent.{Extent}
-use Rattle.tree.specs.declared.extent.Extent.TheVariants as extent
-use Rattle.tree_changes.specs.declared.grow.Span.{Span}
-use Rattle.tree_changes.specs.declared.grow.Grown.{Grown}
-use Rattle.tree_changes.specs.declared.grow.Grown.TheVariants as grown
+use Rattle.tree.specs.declared.extent.Span.{Span}
+use Rattle.tree_changes.specs.declared.grow.Unfit.{Unfit}
 use Rattle.tree_changes.specs.Grow.{Replaced}
 use Rattle.tree.specs.Words.{WroteCopy}
 use Rattle.tree_c.specs.Ends.{end_of, fits, ReplacedTo, CopiedTo}
 
-module _ {old : List ℕ} {tree part fresh : Span} {w : Grown} {new : List ℕ} (q : Replaced old tree part fresh w new) where
-  replaced-to : {r : ℕ} → r ≡ end_of w → ReplacedTo old tree part fresh r new
-  replaced-to e = let s = q.says in record { says = e ∙ rw s; wrote = rw s at q.wrote }
+end-is : (w : Result ℕ Unfit) → result_unwrap_or w 0 ≡ end_of w
+end-is (Ok e) = refl
+end-is (Err u) = refl
 
-  pub replaced-end : {e : ℕ} → w ≡ grown.Ends e → ReplacedTo old tree part fresh e new
-  replaced-end i = replaced-to (rw i)
+pub replaced-to : {old : List ℕ} {tree part fresh : Span} {w : Result ℕ Unfit} {new : List ℕ} → Replaced old tree part fresh w new → {r : ℕ} → r ≡ result_unwrap_or w 0
+    → ReplacedTo old tree part fresh r new
+replaced-to {w} q e = let s = q.says in record { says = e ∙ end-is w ∙ ap end_of s; wrote = rw s at q.wrote }
 
-  pub replaced-large : w ≡ grown.TooLarge → ReplacedTo old tree part fresh 0 new
-  replaced-large i = replaced-to (rw i)
+pub copied-to : (from : List ℕ) (a n : ℕ) (old : List ℕ) (at : ℕ) {w : Option ℕ} {new : List ℕ} → WroteCopy from a n old at w new → {r : ℕ} → r ≡ unwrap_or w 0
+    → CopiedTo from a n old at r new
+copied-to from a n old at {w} q {r} e = record { says = go (fits from a n old at) q.says; is = q.is }
+  where
+    go : (b : Bool) → w ≡ pick b (Some (at + n)) None → r ≡ pick b (at + n) 0
+    go true s = e ∙ ap (λ (x : Option ℕ). unwrap_or x 0) s
+    go false s = e ∙ ap (λ (x : Option ℕ). unwrap_or x 0) s
 
-  pub replaced-not : w ≡ grown.Not → ReplacedTo old tree part fresh 0 new
-  replaced-not i = replaced-to (rw i)
-
-module _ (from : List ℕ) (a n : ℕ) (old : List ℕ) (at : ℕ) {w : Extent} {new : List ℕ} (q : WroteCopy from a n old at w new) where
-  pub copied-end : {e : ℕ} → w ≡ extent.Ends e → CopiedTo from a n old at e new
-  copied-end {e} i = record { says = go (fits from a n old at) (sym i ∙ q.says); is = q.is }
-    where
-      go : (b : Bool) → extent.Ends e ≡ pick b (extent.Ends (at + n)) extent.Not → e ≡ pick b (at + n) 0
-      go true s = cc
-      go false s = let z : ◌≡◌ {A = ℕ} 0 1 = cc in absurd (omega arith)
-
-  pub copied-not : w ≡ extent.Not → CopiedTo from a n old at 0 new
-  copied-not i = record { says = go (fits from a n old at) (sym i ∙ q.says); is = q.is }
-    where
-      go : (b : Bool) → extent.Not ≡ pick b (extent.Ends (at + n)) extent.Not → 0 ≡ pick b (at + n) 0
-      go true s = let z : ◌≡◌ {A = ℕ} 0 1 = cc in absurd (omega arith)
-      go false s = refl
-
-pub ruleset numbers = (rules, replaced-end, replaced-large, replaced-not, copied-end, copied-not)
+pub ruleset numbers = (rules, replaced-to, copied-to)

@@ -1,19 +1,17 @@
 -- The answers of `tree` as numbers: an end, or 0 where nothing was written.
-use Rattle.std.specs.Prelude.{◌≡◌, Bool, ◌&&◌, List, ℕ, ◌+◌, leb, length, drop}
+use Rattle.std.specs.Prelude.{◌≡◌, Bool, ◌&&◌, List, ℕ, ◌+◌, leb, length, drop, Result, Ok, Err}
 use Rattle.std.proofs.Math.Seq.{paste}
 use Rattle.definition.specs.Base.{pick}
-use Rattle.tree_changes.specs.declared.grow.Span.{Span}
-use Rattle.tree_changes.specs.declared.grow.Grown.{Grown}
-use Rattle.tree_changes.specs.declared.grow.Grown.TheVariants.{Ends, TooLarge, Not}
+use Rattle.tree.specs.declared.extent.Span.{Span}
+use Rattle.tree_changes.specs.declared.grow.Unfit.{Unfit}
 use Rattle.tree_changes.specs.Grow.{replaced_of, Splices}
 
 abbrev pub span : ℕ → ℕ → Span
 span begin end = record { begin = begin; end = end }
 
-abbrev pub end_of : Grown → ℕ
-end_of (Ends e) = e
-end_of TooLarge = 0
-end_of Not = 0
+abbrev pub end_of : Result ℕ Unfit → ℕ
+end_of (Ok e) = e
+end_of (Err u) = 0
 
 pub record ReplacedTo (old : List ℕ) (tree part fresh : Span) (r : ℕ) (new : List ℕ) : Type 0 where
   pub says : r ≡ end_of (replaced_of (length old) tree part fresh)

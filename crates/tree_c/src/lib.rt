@@ -1,12 +1,11 @@
 // What tools/measure_tree links: a part that is replaced, and a plain copy to measure it against.
-#![tactic(auto)]
+#![tactic(auto, using(crate::proofs::Numbers::numbers))]
 
 ghost use Rattle.tree_c.specs.Ends.{span, ReplacedTo, CopiedTo};
 
-use tree::extent::Extent;
+use tree::extent::Span;
 use tree::words;
 use tree_changes::grow;
-use tree_changes::grow::{Grown, Span};
 
 // The tree's new end, or 0 where nothing was written.
 #[unsafe(no_mangle)]
@@ -33,11 +32,7 @@ pub extern "C" fn wirkesu_tree_replace(
         begin: fresh_begin,
         end: fresh_end,
     };
-    match grow::replace(out, tree, part, fresh) {
-        Grown::Ends(end) => end,
-        Grown::TooLarge => 0,
-        Grown::Not => 0,
-    }
+    grow::replace(out, tree, part, fresh).unwrap_or(0)
 }
 
 // Where the words end in `out`, or 0 where nothing was written.
@@ -51,8 +46,5 @@ pub extern "C" fn wirkesu_tree_copy(
 ) -> usize
     ensures { CopiedTo from.now a count out.old at result out.new }
 {
-    match words::copy(from, a, count, out, at) {
-        Extent::Ends(end) => end,
-        Extent::Not => 0,
-    }
+    words::copy(from, a, count, out, at).unwrap_or(0)
 }

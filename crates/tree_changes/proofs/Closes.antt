@@ -1,14 +1,12 @@
 -- A part that gives way to a tree that is no longer: what follows it closes up. Assumes nothing.
 use mathlib.Core.Path.{◌≡◌, ap, ◌∙◌}
-use mathlib.Core.Logic.{inl}
 use mathlib.Core.List.{List, ◌++◌, append_assoc}
 use Prim.Native.Nat.{ℕ, ◌+◌, ◌-◌, ◌≤◌}
 use native.Mathlib.Omega.{arith}
 use lib.ListN.{length, take, drop, length-drop}
 use lib.Seq.{paste, length-paste, take-paste, drop-paste, take-add, slice}
 use borrow.Author.Rules.{rules}
-use Rattle.tree_changes.specs.declared.grow.Span.{Span}
-use Rattle.tree.specs.Words.{Moves}
+use Rattle.tree.specs.declared.extent.Span.{Span}
 use Rattle.tree_changes.specs.Grow.{Ordered, tail, moved, Within, Spliced}
 use Rattle.tree.proofs.Stands.{take-drop, drop_past}
 
@@ -52,11 +50,11 @@ module _ {old : List ℕ} {tree part fresh : Span} (w : Within old tree part fre
       ∙ ap (λ (x : List ℕ). take part.begin old ++ (slice fresh.begin fresh.end old ++ x)) (take-drop part.end (tail tree part) old ∙ ap (λ (k : ℕ). slice part.end k old) e))
 
   -- ---- the moves are possible
-  pub fresh-moves : Moves (length old) fresh.begin (fresh.end - fresh.begin) part.begin
-  fresh-moves = let o = order in record { source = omega (arith, inside); target = omega (arith, inside, w.short); unread = inl (omega arith) }
+  pub fresh-room : part.begin + (fresh.end - fresh.begin) ≤ length old
+  fresh-room = let o = order in omega (arith, inside, w.short)
 
-  pub rest-moves : (s : List ℕ) → length s ≡ length old → Moves (length s) part.end (tail tree part) seam
-  rest-moves s n = let o = order in record { source = omega (arith, inside); target = omega (arith, inside, w.short); unread = inl (omega (arith, w.short)) }
+  pub rest-room : part.begin + (fresh.end - fresh.begin) + (tree.end - part.end) ≤ length old
+  rest-room = let o = order in omega (arith, inside, w.short)
 
   -- ---- and give the tree
   module _ {s : List ℕ} (p : s ≡ mid) where
@@ -91,4 +89,4 @@ module _ {old : List ℕ} {tree part fresh : Span} (w : Within old tree part fre
               ∙ mid-rest (fresh.end + tail tree part) (omega (arith, far)));
         }
 
-pub ruleset closes = (rules, fresh-moves, rest-moves, spliced-same, spliced-shorter)
+pub ruleset closes = (rules, fresh-room, rest-room, spliced-same, spliced-shorter)

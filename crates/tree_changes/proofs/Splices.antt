@@ -1,7 +1,6 @@
 -- A part that gives way: where the answer is, and the moves for a longer tree. Assumes nothing.
 use mathlib.Core.Path.{◌≡◌, refl, ap, sym, ◌∙◌}
 use mathlib.Core.Bool.{Bool, true, false}
-use mathlib.Core.Logic.{◌⊎◌, inl, inr, ⊎_elim}
 use mathlib.Core.List.{List, ◌++◌}
 use Prim.Native.Nat.{ℕ, ◌+◌, ◌-◌, ◌*◌, ◌≤◌, ◌<◌}
 use native.Mathlib.Omega.{arith}
@@ -10,13 +9,13 @@ use lib.ListN.{length, take, drop, set, length-drop}
 use lib.Seq.{paste, length-paste, take-paste, drop-paste, take-take, take-append-le, drop-append-le, length-take-le, slice}
 use borrow.Author.Rules.{rules}
 use borrow.Author.Tests.{leb-true, le-leb, lt-leb}
+use Rattle.std.specs.Prelude.{Result, Ok, Err}
 use Rattle.definition.specs.Base.{pick}
 use Rattle.definition.specs.Tree.{most_nodes}
 use Rattle.laws.specs.Cases.{both}
-use Rattle.tree_changes.specs.declared.grow.Span.{Span}
-use Rattle.tree_changes.specs.declared.grow.Grown.{Grown}
-use Rattle.tree_changes.specs.declared.grow.Grown.TheVariants.{Ends, TooLarge, Not}
-use Rattle.tree.specs.Words.{Moves}
+use Rattle.tree.specs.declared.extent.Span.{Span}
+use Rattle.tree_changes.specs.declared.grow.Unfit.{Unfit}
+use Rattle.tree_changes.specs.declared.grow.Unfit.TheVariants.{TooLarge, Outside}
 use Rattle.tree.specs.Node.{Renamed}
 use Rattle.tree_changes.specs.Grow.{in_order, Ordered, tail, moved, ordered_of, replaced_of, Room, Spliced, Replaced, renamed, Assigned}
 use Rattle.tree.proofs.Stands.{take-drop, drop_past}
@@ -37,36 +36,33 @@ module _ (tree part fresh : Span) {b : Bool} (e : b ≡ in_order tree part fresh
       }
 
   module _ (len : ℕ) where
-    pub replaced-so : b ≡ true → {r : Grown} → r ≡ ordered_of len tree part fresh → r ≡ replaced_of len tree part fresh
+    pub replaced-so : b ≡ true → {r : Result ℕ Unfit} → r ≡ ordered_of len tree part fresh → r ≡ replaced_of len tree part fresh
     replaced-so t i = let k : in_order tree part fresh ≡ true = sym e ∙ t in rw (k, i)
 
-    pub replaced-not : b ≡ false → Not ≡ replaced_of len tree part fresh
+    pub replaced-not : b ≡ false → Err Outside ≡ replaced_of len tree part fresh
     replaced-not t = let k : in_order tree part fresh ≡ false = sym e ∙ t in rw k
 
 -- ---- where the answer is
 module _ (len : ℕ) (tree part fresh : Span) where
-  pub ordered-large : 12288 < part.begin - tree.begin + moved tree part fresh → TooLarge ≡ ordered_of len tree part fresh
+  pub ordered-large : 12288 < part.begin - tree.begin + moved tree part fresh → Err TooLarge ≡ ordered_of len tree part fresh
   ordered-large h = rw (lt-leb (part.begin - tree.begin + moved tree part fresh) (most_nodes * 6) h)
 
   module _ (h : part.begin - tree.begin + moved tree part fresh ≤ 12288) {b : Bool} (e : b ≡ leb (fresh.end + tail tree part) len) where
-    pub ordered-ends : b ≡ true → Ends (part.begin + moved tree part fresh) ≡ ordered_of len tree part fresh
+    pub ordered-ends : b ≡ true → Ok (part.begin + moved tree part fresh) ≡ ordered_of len tree part fresh
     ordered-ends t = let k : leb (fresh.end + tail tree part) len ≡ true = sym e ∙ t in rw (le-leb (part.begin - tree.begin + moved tree part fresh) (most_nodes * 6) h, k)
 
-    pub ordered-not : b ≡ false → Not ≡ ordered_of len tree part fresh
+    pub ordered-not : b ≡ false → Err Outside ≡ ordered_of len tree part fresh
     ordered-not t = let k : leb (fresh.end + tail tree part) len ≡ false = sym e ∙ t in rw (le-leb (part.begin - tree.begin + moved tree part fresh) (most_nodes * 6) h, k)
 
 module _ (s : List ℕ) (tree part fresh : Span) where
-  no_end : {e : ℕ} {r : Grown} → (r ≡ Not) ⊎ (r ≡ TooLarge) → r ≡ Ends e → Room s tree part fresh
-  no_end h q = ⊎_elim (λ n. let z : ◌≡◌ {A = ℕ} 0 1 = cc in absurd (omega arith)) (λ n. let z : ◌≡◌ {A = ℕ} 0 1 = cc in absurd (omega arith)) h
-
   by_tests : (a b c : Bool) (x e : ℕ) → in_order tree part fresh ≡ a → leb (fresh.end + tail tree part) (length s) ≡ c
-      → pick a (pick b (pick c (Ends x) Not) TooLarge) Not ≡ Ends e → Room s tree part fresh
+      → pick a (pick b (pick c (Ok x) (Err Outside)) (Err TooLarge)) (Err Outside) ≡ Ok e → Room s tree part fresh
   by_tests true true true x e i k q = record { ordered = ordered tree part fresh (sym i) refl; room = leb-true (fresh.end + tail tree part) (length s) k }
-  by_tests true true false x e i k q = no_end (inl refl) q
-  by_tests true false c x e i k q = no_end (inr refl) q
-  by_tests false b c x e i k q = no_end (inl refl) q
+  by_tests true true false x e i k q = cc
+  by_tests true false c x e i k q = cc
+  by_tests false b c x e i k q = cc
 
-  pub ends-room : {r : Grown} → r ≡ replaced_of (length s) tree part fresh → {e : ℕ} → r ≡ Ends e → Room s tree part fresh
+  pub ends-room : {r : Result ℕ Unfit} → r ≡ replaced_of (length s) tree part fresh → {e : ℕ} → r ≡ Ok e → Room s tree part fresh
   ends-room i {e} q =
       by_tests
       (in_order tree part fresh)
@@ -118,13 +114,16 @@ module _ {old : List ℕ} {tree part fresh : Span} (r : Room old tree part fresh
       ∙ drop-append-le fresh.begin (take fresh.end old) (slice part.end tree.end old) (omega (arith, long))
 
   -- the two moves are possible
-  pub tail-moves : Moves (length old) part.end (tail tree part) fresh.end
-  tail-moves = let o = order in record { source = omega (arith, r.room); target = r.room; unread = inr (omega arith) }
+  pub tail-room : fresh.end + (tree.end - part.end) ≤ length old
+  tail-room = r.room
 
-  pub all-moves : (s : List ℕ) → length s ≡ length old → Moves (length s) fresh.begin (moved tree part fresh) part.begin
-  all-moves s n = let o = order in record { source = omega (arith, r.room); target = omega (arith, r.room); unread = inl (omega arith) }
+  pub all-room : part.begin + (fresh.end + tail tree part - fresh.begin) ≤ length old
+  all-room = let o = order in omega (arith, r.room)
 
-  module _ {s t : List ℕ} (p : s ≡ mid) (q : t ≡ paste s part.begin (drop fresh.begin s) (moved tree part fresh)) where
+  module _ {s t : List ℕ} (p : s ≡ mid) (d : t ≡ paste s part.begin (drop fresh.begin s) (fresh.end + tail tree part - fresh.begin)) where
+    q : t ≡ paste s part.begin (drop fresh.begin s) (moved tree part fresh)
+    q = let o = order in let n : fresh.end + tail tree part - fresh.begin ≡ moved tree part fresh = omega arith in rw n at d
+
     target : part.begin + moved tree part fresh ≤ fresh.end + tail tree part
     target = let o = order in omega arith
 
@@ -145,38 +144,32 @@ module _ {old : List ℕ} {tree part fresh : Span} (r : Room old tree part fresh
     spliced = record { front = front-is; back = back_is }
 
 -- ---- the answer with the words
-module _ (old : List ℕ) (tree part fresh : Span) {r : Grown} (i : r ≡ replaced_of (length old) tree part fresh) where
-  pub replaced-ends : {e : ℕ} → r ≡ Ends e → {new : List ℕ} → Spliced old tree part fresh new → Replaced old tree part fresh r new
-  replaced-ends q {new} s = record { says = i; wrote = rw q s }
+module _ (old : List ℕ) (tree part fresh : Span) {r : Result ℕ Unfit} (i : r ≡ replaced_of (length old) tree part fresh) where
+  pub replaced-ends : {e : ℕ} → r ≡ Ok e → {new : List ℕ} → Spliced old tree part fresh new → Replaced old tree part fresh (Ok e) new
+  replaced-ends q s = record { says = sym q ∙ i; wrote = s }
 
-  pub replaced-large : r ≡ TooLarge → Replaced old tree part fresh r old
-  replaced-large q = record { says = i; wrote = rw q refl }
-
-  pub replaced-none : r ≡ Not → Replaced old tree part fresh r old
-  replaced-none q = record { says = i; wrote = rw q refl }
+  pub replaced-none : {u : Unfit} → r ≡ Err u → Replaced old tree part fresh (Err u) old
+  replaced-none q = record { says = sym q ∙ i; wrote = refl }
 
 -- ---- the same with a name
-module _ (old : List ℕ) (tree part fresh : Span) (name : ℕ) {r : Grown} (i : r ≡ replaced_of (length old) tree part fresh) where
-  pub assigned-ends : {e : ℕ} → r ≡ Ends e → {b : Bool} {mid new : List ℕ} → Renamed old fresh.begin name b mid → Spliced mid tree part fresh new → Assigned old tree part fresh name r new
+module _ (old : List ℕ) (tree part fresh : Span) (name : ℕ) {r : Result ℕ Unfit} (i : r ≡ replaced_of (length old) tree part fresh) where
+  pub assigned-ends : {e : ℕ} → r ≡ Ok e → {b : Bool} {mid new : List ℕ} → Renamed old fresh.begin name b mid → Spliced mid tree part fresh new → Assigned old tree part fresh name (Ok e) new
   assigned-ends q {b} {mid} {new} n s =
       let m : mid ≡ renamed old fresh.begin name = n.is ∙ ap (λ (c : Bool). pick c (set old fresh.begin name) old) n.says in
-      record { says = i; wrote = rw q (rw m at s) }
+      record { says = sym q ∙ i; wrote = rw m at s }
 
-  pub assigned-large : r ≡ TooLarge → Assigned old tree part fresh name r old
-  assigned-large q = record { says = i; wrote = rw q refl }
-
-  pub assigned-none : r ≡ Not → Assigned old tree part fresh name r old
-  assigned-none q = record { says = i; wrote = rw q refl }
+  pub assigned-none : {u : Unfit} → r ≡ Err u → Assigned old tree part fresh name (Err u) old
+  assigned-none q = record { says = sym q ∙ i; wrote = refl }
 
 pub room-same : (old s : List ℕ) {tree part fresh : Span} → Room old tree part fresh → length s ≡ length old → Room s tree part fresh
 room-same old s r n = record { ordered = r.ordered; room = omega (arith, r.room) }
 
-pub ends-room-same : (old s : List ℕ) (tree part fresh : Span) {r : Grown} → r ≡ replaced_of (length old) tree part fresh → {e : ℕ} → r ≡ Ends e → length s ≡ length old → Room s tree part fresh
+pub ends-room-same : (old s : List ℕ) (tree part fresh : Span) {r : Result ℕ Unfit} → r ≡ replaced_of (length old) tree part fresh → {e : ℕ} → r ≡ Ok e → length s ≡ length old → Room s tree part fresh
 ends-room-same old s tree part fresh i q n = room-same old s (ends-room old tree part fresh i q) n
 
 pub ruleset orders = (rules, lt-leb, le-leb)
 
 pub ruleset splices =
-    (rules, ordered, replaced-so, replaced-not, ordered-large, ordered-ends, ordered-not, ends-room, tail-moves, all-moves, spliced, replaced-ends, replaced-large, replaced-none)
+    (rules, ordered, replaced-so, replaced-not, ordered-large, ordered-ends, ordered-not, ends-room, tail-room, all-room, spliced, replaced-ends, replaced-none)
 
-pub ruleset assigns = (rules, ends-room-same, assigned-ends, assigned-large, assigned-none)
+pub ruleset assigns = (rules, ends-room-same, assigned-ends, assigned-none)

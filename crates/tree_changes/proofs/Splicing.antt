@@ -8,11 +8,11 @@ use lib.Dec.{leb}
 use lib.ListN.{length, take, set, length-append, length-set}
 use lib.Seq.{slice, take-add, take-set-le}
 use borrow.Author.Tests.{le-leb, lt-leb, leb-true, leb-false}
+use Rattle.std.specs.Prelude.{Some}
 use Rattle.definition.specs.Tree.{Node, Tree, Trees, node, tcons, head, many, nodes, nodes_in, flatten, flatten_all, named, join, rest, replaced, most_nodes}
 use Rattle.definition.specs.Iec.{filled, assigned}
 use Rattle.laws.specs.Whole.{flatten-length, flatten_all-length, flatten_all-join, nodes-some, many-join, many-rest}
-use Rattle.tree.specs.declared.part.Found.TheVariants.{At}
-use Rattle.tree_changes.specs.declared.grow.Span.{Span}
+use Rattle.tree.specs.declared.extent.Span.{Span}
 use Rattle.tree.specs.Words.{Stand}
 use Rattle.tree.specs.Node.{words_of, as_node}
 use Rattle.tree.specs.Part.{place}
@@ -99,10 +99,10 @@ limit-words n = go (leb n most_nodes) refl
 
 -- find, then replace: the tree with its first part of that name replaced
 module _ (old : List ℕ) (tree : Span) (h : Node) (ts : Trees) (x : Stand old tree.begin (flatten (node h ts)) tree.end)
-    (name : ℕ) (part : Span) (q : place name (tree.begin + 6) ts ≡ At part.begin part.end)
+    (name : ℕ) (part : Span) (q : place name (tree.begin + 6) ts ≡ Some part)
     (u : Tree) (fresh : Span) (y : Stand old fresh.begin (flatten u) fresh.end) where
-  found : Named name (tree.begin + 6) ts part.begin part.end
-  found = place-named name (tree.begin + 6) ts part.begin part.end q
+  found : Named name (tree.begin + 6) ts part
+  found = place-named name (tree.begin + 6) ts part q
 
   pub replaced-size : part.begin - tree.begin + moved tree part fresh ≡ nodes (node h (replaced name u ts)) * 6
   replaced-size = go found.front found.part found.back found.is found.begins found.ends (found.gives u)
@@ -148,7 +148,7 @@ many-filled ts us h = rw (many-join us (rest (many us) ts), many-rest (many us) 
 
 -- the same where the new tree takes the name: the definition's `assigned`
 module _ (old : List ℕ) (tree : Span) (h : Node) (ts : Trees) (x : Stand old tree.begin (flatten (node h ts)) tree.end)
-    (name : ℕ) (part : Span) (q : place name (tree.begin + 6) ts ≡ At part.begin part.end)
+    (name : ℕ) (part : Span) (q : place name (tree.begin + 6) ts ≡ Some part)
     (u : Tree) (fresh : Span) (y : Stand old fresh.begin (flatten u) fresh.end) (o : tree.end ≤ fresh.begin) where
   there : renamed old fresh.begin name ≡ set old fresh.begin name
   there = rw (le-leb (fresh.begin + 6) (length old) (omega (arith, y.long, y.fits, flatten-length u, nodes-some u)))

@@ -1,4 +1,6 @@
 // Refusal 8: a tree has at most 2,048 nodes, its head among them; and values are no more than there are places. These are the definition's tests.
+#![tactic(auto, using(crate::proofs::Limits::copyings))]
+
 ghost use Rattle.std.specs.Prelude.{◌≡◌, suc, ◌+◌, ◌*◌, leb};
 ghost use Rattle.definition.specs.Tree.{most_nodes};
 ghost use Rattle.tree_changes.specs.Limit.{added_of, copied_of};
@@ -6,10 +8,9 @@ ghost use Rattle.tree_changes.specs.Limit.{added_of, copied_of};
 use definition::layout::MOST_NODES;
 use tree::words::fits;
 
-// Whether values fit behind those that there are, or what they would be first: too large, or too many for the places.
+// Why values do not fit behind those that there are: too many for the places, or too large a tree.
 #[derive(Clone, Copy)]
-pub enum Added {
-    Fits,
+pub enum Misfit {
     TooMany,
     TooLarge,
 }
@@ -22,38 +23,39 @@ pub fn may_form(nodes: usize) -> bool
 }
 
 // More nodes under a head that has some already (`gathered`).
+#[tactic(auto, using(crate::proofs::Grows::grows))]
 pub fn may_gather(size: usize, more: usize) -> bool
     ensures { result ≡ leb (suc (size + more)) most_nodes }
 {
-    if MOST_NODES <= size {
-        return false;
-    }
-    more < MOST_NODES - size
+    size < MOST_NODES && more < MOST_NODES - size
 }
 
 // So many times some nodes, under a head (`repeated_defaults`).
+#[tactic(auto, using(crate::proofs::Grows::grows))]
 pub fn may_repeat(times: usize, nodes: usize) -> bool
     ensures { result ≡ leb (suc (times * nodes)) most_nodes }
 {
-    if nodes == 0 {
-        return true;
-    }
-    times <= (MOST_NODES - 1) / nodes
+    nodes == 0 || times <= (MOST_NODES - 1) / nodes
 }
 
 // So many values of so many nodes, behind `made` values of `size` nodes (`added`).
-pub fn may_add(places: usize, made: usize, size: usize, values: usize, nodes: usize) -> Added
+#[tactic(auto, using(crate::proofs::Limits::copyings), unfolding(crate::specs::Limit::added_of))]
+pub fn may_add(
+    places: usize,
+    made: usize,
+    size: usize,
+    values: usize,
+    nodes: usize,
+) -> Result<(), Misfit>
     ensures { result ≡ added_of places made size values nodes }
 {
-    if may_gather(size, nodes) {
-        if fits(places, made, values) {
-            Added::Fits
-        } else {
-            Added::TooMany
-        }
-    } else {
-        Added::TooLarge
+    if !may_gather(size, nodes) {
+        return Err(Misfit::TooLarge);
     }
+    if !fits(places, made, values) {
+        return Err(Misfit::TooMany);
+    }
+    Ok(())
 }
 
 // The same values so many times, each time behind those that were added before (`copied`). Takes `times` steps at most: `expand` holds
@@ -65,22 +67,15 @@ pub fn may_copy(
     size: usize,
     values: usize,
     nodes: usize,
-) -> Added
+) -> Result<(), Misfit>
     ensures { result ≡ copied_of times places made size values nodes }
 {
-    let mut left = times;
     let mut count = made;
     let mut gathered = size;
-    while left > 0 {
-        let one = may_add(places, count, gathered, values, nodes);
-        match one {
-            Added::Fits => {}
-            Added::TooMany => return one,
-            Added::TooLarge => return one,
-        }
+    for _ in 0..times {
+        may_add(places, count, gathered, values, nodes)?;
         count += values;
         gathered += nodes;
-        left -= 1;
     }
-    Added::Fits
+    Ok(())
 }

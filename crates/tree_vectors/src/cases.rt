@@ -1,160 +1,132 @@
-// One case: the function that it names, on its words.
-ghost use Rattle.std.specs.Prelude.{◌≡◌, length};
-
-use crate::lines;
+// One case: its function, with its numbers and its words, and the line of what it answers.
+use crate::answer::Answer;
 use std::io;
+use tree::extent::Span;
 use tree::{extent, node, part, words};
-use tree_changes::grow::{Grown, Span};
+use tree_changes::grow::Unfit;
 use tree_changes::{grow, limit};
 
-// The numbers behind the function's and the words' own.
-#[derive(Clone, Copy)]
-pub struct Case {
-    pub a: u32,
-    pub b: u32,
-    pub c: u32,
-    pub d: u32,
-    pub e: u32,
-    pub f: u32,
-    pub g: u32,
-    pub h: u32,
-}
-
-pub fn wide(x: u32) -> usize {
-    x as usize
-}
-
-fn case_of(head: &[u32]) -> Case
-    requires { length head.now ≡ 10 }
-{
-    Case {
-        a: head[2],
-        b: head[3],
-        c: head[4],
-        d: head[5],
-        e: head[6],
-        f: head[7],
-        g: head[8],
-        h: head[9],
-    }
-}
-
 // What is read.
-fn reads(rt: &impl Print, function: u32, x: Case, s: &[u32]) -> io::Result<()> {
+fn read(function: u32, x: [u32; 8], s: &[u32]) -> Option<Answer> {
+    let at = x[0] as usize;
+    let count = x[1] as usize;
     match function {
-        1 => lines::extent(rt, extent::whole(s, wide(x.a))),
-        2 => lines::extent(rt, extent::after(s, wide(x.a), wide(x.b))),
-        3 => lines::truth(rt, extent::is_tree(s, wide(x.a), wide(x.b))),
-        4 => lines::value(rt, part::value_at(s, wide(x.a))),
-        5 => lines::found(rt, part::find(s, wide(x.a), x.b)),
-        6 => lines::found(rt, part::part(s, wide(x.a), x.b)),
-        7 => lines::found(rt, part::nth(s, wide(x.a), wide(x.b))),
-        8 => lines::node_at(rt, node::read(s, wide(x.a))),
-        _ => Ok(()),
+        1 => Some(Answer::End(extent::whole(s, at))),
+        2 => Some(Answer::End(extent::after(s, at, count))),
+        3 => Some(Answer::Test(extent::is_tree(s, at, count))),
+        4 => Some(Answer::Value(part::value_at(s, at))),
+        5 => Some(Answer::Part(part::find(s, at, x[1]))),
+        6 => Some(Answer::Part(part::part(s, at, x[1]))),
+        7 => Some(Answer::Part(part::nth(s, at, count))),
+        8 => Some(Answer::Node(node::read(s, at))),
+        _ => None,
     }
 }
 
 // What is tested.
-fn limits(rt: &impl Print, function: u32, x: Case) -> io::Result<()> {
+fn limits(function: u32, x: [u32; 8]) -> Option<Answer> {
+    let [a, b, c, d, e, f, _, _] = x.map(|n| n as usize);
     match function {
-        11 => lines::truth(rt, limit::may_form(wide(x.a))),
-        12 => lines::truth(rt, limit::may_gather(wide(x.a), wide(x.b))),
-        13 => lines::truth(rt, limit::may_repeat(wide(x.a), wide(x.b))),
-        14 => lines::added(
-            rt,
-            limit::may_add(wide(x.a), wide(x.b), wide(x.c), wide(x.d), wide(x.e)),
-        ),
-        15 => lines::added(
-            rt,
-            limit::may_copy(
-                wide(x.a),
-                wide(x.b),
-                wide(x.c),
-                wide(x.d),
-                wide(x.e),
-                wide(x.f),
-            ),
-        ),
-        _ => Ok(()),
+        11 => Some(Answer::Test(limit::may_form(a))),
+        12 => Some(Answer::Test(limit::may_gather(a, b))),
+        13 => Some(Answer::Test(limit::may_repeat(a, b))),
+        14 => Some(Answer::Added(limit::may_add(a, b, c, d, e))),
+        15 => Some(Answer::Added(limit::may_copy(a, b, c, d, e, f))),
+        _ => None,
     }
 }
 
 // What is written.
-fn writes(rt: &impl Print, function: u32, x: Case, s: &[u32], out: &mut [u32]) -> io::Result<()> {
+fn write(function: u32, x: [u32; 8], s: &[u32], out: &mut [u32]) -> Option<Answer> {
+    let [a, b, c, d, _, _, _, _] = x.map(|n| n as usize);
     match function {
-        21 => lines::extent(
-            rt,
-            node::write_leaf(out, wide(x.a), x.b, x.c, x.d, x.e, x.f),
-        ),
-        22 => lines::extent(rt, node::write_array(out, wide(x.a), x.b)),
-        23 => lines::extent(rt, node::write_structure(out, wide(x.a), x.b)),
-        24 => lines::truth(rt, node::set_name(out, wide(x.a), x.b)),
-        25 => lines::extent(rt, words::copy(s, wide(x.a), wide(x.b), out, wide(x.c))),
-        26 => lines::extent(rt, words::shift(out, wide(x.a), wide(x.b), wide(x.c))),
-        27 => lines::grown(
-            rt,
-            grow::gather(s, wide(x.a), wide(x.b), out, wide(x.c), wide(x.d)),
-        ),
-        28 => lines::grown(rt, grow::repeat(out, wide(x.a), wide(x.b), wide(x.c))),
-        _ => Ok(()),
-    }
-}
-
-// The words up to the answer, and from a place on; what is between them is scratch.
-fn shown(rt: &impl Print, r: Grown, out: &[u32], from: usize) -> io::Result<()> {
-    lines::grown(rt, r)?;
-    match r {
-        Grown::Ends(e) => {
-            lines::words(rt, out, 0, e)?;
-            lines::words(rt, out, from, out.len())
+        21 => {
+            let end = node::write_leaf(out, a, x[1], x[2], x[3], x[4], x[5]);
+            Some(Answer::End(end))
         }
-        _ => lines::words(rt, out, 0, out.len()),
+        22 => Some(Answer::End(node::write_array(out, a, x[1]))),
+        23 => Some(Answer::End(node::write_structure(out, a, x[1]))),
+        24 => Some(Answer::Test(node::set_name(out, a, x[1]))),
+        25 => Some(Answer::End(words::copy(s, a, b, out, c))),
+        26 => Some(Answer::End(words::shift(out, a, b, c))),
+        27 => Some(Answer::Grown(grow::gather(s, a, b, out, c, d))),
+        28 => Some(Answer::Grown(grow::repeat(out, a, b, c))),
+        _ => None,
     }
 }
 
-fn span(begin: u32, end: u32) -> Span {
-    Span {
-        begin: wide(begin),
-        end: wide(end),
-    }
-}
-
-fn replaces(rt: &impl Print, function: u32, x: Case, out: &mut [u32]) -> io::Result<()> {
-    let tree = span(x.a, x.b);
-    let part = span(x.c, x.d);
-    let fresh = span(x.e, x.f);
+// What takes a part's place. Function 31 replaces it, any other names the new part too.
+fn replace(function: u32, x: [u32; 8], out: &mut [u32]) -> Result<usize, Unfit> {
+    let [a, b, c, d, e, f, _, _] = x.map(|n| n as usize);
+    let tree = Span { begin: a, end: b };
+    let part = Span { begin: c, end: d };
+    let fresh = Span { begin: e, end: f };
     if function == 31 {
-        return shown(rt, grow::replace(out, tree, part, fresh), out, wide(x.g));
+        return grow::replace(out, tree, part, fresh);
     }
-    shown(
-        rt,
-        grow::assign(out, tree, part, fresh, x.h),
-        out,
-        wide(x.g),
-    )
+    grow::assign(out, tree, part, fresh, x[7])
 }
 
-fn answers(rt: &impl Print, function: u32, x: Case, s: &[u32], out: &mut [u32]) -> io::Result<()> {
-    if function < 10 {
-        return reads(rt, function, x, s);
-    }
-    if function < 20 {
-        return limits(rt, function, x);
-    }
-    if function < 30 {
-        writes(rt, function, x, s, out)?;
-        return lines::words(rt, out, 0, out.len());
-    }
-    replaces(rt, function, x, out)
+fn mixed(sum: u64, word: u32) -> u64 {
+    ((sum % 4294967291) * 1000003 + (word as u64)) % 4294967291
 }
 
-pub fn run(rt: &impl Print, head: &[u32], s: &[u32], out: &mut [u32]) -> io::Result<()>
-    requires { length head.now ≡ 10 }
-{
-    let function = head[0];
-    let x = case_of(head);
+// One number for the words from a place up to another: the remainder of a sum of powers.
+fn sum(s: &[u32], from: usize, to: usize) -> u64 {
+    let mut total: u64 = 7;
+    for &word in s.iter().take(to).skip(from) {
+        total = mixed(total, word);
+    }
+    total
+}
+
+fn print_answer(rt: &impl Print, answer: Option<Answer>) -> io::Result<()> {
+    match answer {
+        Some(answer) => print!(rt; "{answer} "),
+        None => Ok(()),
+    }
+}
+
+// The answer with the words up to it and those from a place on; what is between them is scratch.
+fn print_replaced(
+    rt: &impl Print,
+    end: Result<usize, Unfit>,
+    out: &[u32],
+    from: usize,
+) -> io::Result<()> {
+    print_answer(rt, Some(Answer::Grown(end)))?;
+    match end {
+        Ok(end) => print!(rt; "{} {} ", sum(out, 0, end), sum(out, from, out.len())),
+        Err(_) => print!(rt; "{} ", sum(out, 0, out.len())),
+    }
+}
+
+fn print_case(
+    rt: &impl Print,
+    function: u32,
+    x: [u32; 8],
+    s: &[u32],
+    out: &mut [u32],
+) -> io::Result<()> {
+    match function {
+        0..=9 => print_answer(rt, read(function, x, s)),
+        10..=19 => print_answer(rt, limits(function, x)),
+        20..=29 => {
+            print_answer(rt, write(function, x, s, out))?;
+            print!(rt; "{} ", sum(out, 0, out.len()))
+        }
+        _ => {
+            let end = replace(function, x, out);
+            print_replaced(rt, end, out, x[6] as usize)
+        }
+    }
+}
+
+// Ten numbers: the function, how many words were given, and the function's own; and those words, copied to `out` too.
+pub fn run(rt: &impl Print, head: &[u32; 10], s: &[u32], out: &mut [u32]) -> io::Result<()> {
+    let [function, _, a, b, c, d, e, f, g, h] = *head;
     words::copy(s, 0, s.len(), out, 0);
-    lines::number(rt, wide(function) as u64)?;
-    answers(rt, function, x, s, out)?;
-    lines::ends(rt)
+    print!(rt; "{function} ")?;
+    print_case(rt, function, [a, b, c, d, e, f, g, h], s, out)?;
+    print!(rt; "\n")
 }

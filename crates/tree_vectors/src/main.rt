@@ -1,10 +1,8 @@
 // Runs the stored cases over the functions of `tree` and prints a line for each. What the lines must be comes from model.py, which also wrote the cases.
 #![tactic(auto)]
 
-ghost use Rattle.std.specs.Prelude.{◌+◌, ◌≤◌, length};
-
+mod answer;
 mod cases;
-mod lines;
 mod text;
 
 use std::io;
@@ -13,71 +11,24 @@ use vector_io::read_full;
 const HEAD_WORDS: usize = 10;
 
 // In place of a number of words: those of the case before.
-const SAME: usize = 4294967295;
-
-#[derive(Clone, Copy)]
-struct Kept {
-    first: usize,
-    count: usize,
-}
-
-fn words_of(said: usize, begin: usize, kept: Kept) -> Kept {
-    if said == SAME {
-        kept
-    } else {
-        Kept {
-            first: begin,
-            count: said,
-        }
-    }
-}
-
-// What a case's words take behind its head.
-fn taken(said: usize) -> usize {
-    if said == SAME { 0 } else { said }
-}
-
-fn run_one(
-    rt: &impl Print,
-    words: &[u32],
-    work: &mut [u32],
-    at: usize,
-    first: usize,
-    count: usize,
-) -> io::Result<()>
-    requires { at + 10 ≤ length words.now }
-{
-    if words.len() < first {
-        return Ok(());
-    }
-    if words.len() - first < count {
-        return Ok(());
-    }
-    if work.len() < count {
-        return Ok(());
-    }
-    cases::run(
-        rt,
-        &words[at..at + HEAD_WORDS],
-        &words[first..first + count],
-        &mut work[0..count],
-    )
-}
+const SAME: u32 = 4294967295;
 
 // The cases, one behind the other: ten numbers, the second of which says how many words the slice has, and those words.
 fn run_all(rt: &impl Print, words: &[u32], work: &mut [u32]) -> io::Result<()> {
-    let mut at: usize = 0;
-    let mut kept = Kept { first: 0, count: 0 };
-    while at + HEAD_WORDS <= words.len() {
-        let begin = at + HEAD_WORDS;
-        let said = cases::wide(words[at + 1]);
-        kept = words_of(said, begin, kept);
-        run_one(rt, words, work, at, kept.first, kept.count)?;
-        let more = taken(said);
-        if words.len() - begin < more {
-            return Ok(());
+    let mut rest = words;
+    let mut kept = &words[..0];
+    while let Some((head, behind)) = rest.split_first_chunk::<HEAD_WORDS>() {
+        rest = behind;
+        if head[1] != SAME {
+            let Some((given, others)) = behind.split_at_checked(head[1] as usize) else {
+                return Ok(());
+            };
+            kept = given;
+            rest = others;
         }
-        at = begin + more;
+        if let Some(out) = work.get_mut(..kept.len()) {
+            cases::run(rt, head, kept, out)?;
+        }
     }
     Ok(())
 }
@@ -90,7 +41,7 @@ fn run(
 ) -> io::Result<()> {
     let n = read_full(&mut rt.reader(), bytes)?;
     let count = text::numbers(&bytes[..n], words);
-    run_all(rt, &words[0..count], work)
+    run_all(rt, &words[..count], work)
 }
 
 fn main(rt: HostRuntime) -> io::Result<()> {

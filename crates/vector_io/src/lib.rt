@@ -1,16 +1,34 @@
-// What programs read and print: the bytes of a reader; words from standard input, each of four bytes, the least first; and numbers, each on its line.
+// What programs read: the bytes of a reader, and words from standard input.
 #![tactic(auto)]
 
-ghost use Rattle.std.specs.Prelude.{◌<◌};
+pub mod answers;
+
+ghost use Rattle.std.specs.Prelude.{◌≡◌, ℕ, ◌%◌, ◌<◌, ◌≤◌, false, length, drop, IfOk, IfSome};
 ghost use Rattle.std.specs.Io.{ReadsAtMost};
 
 use std::io;
 use std::io::Read;
 
-#[derive(Clone, Copy)]
-pub enum Got {
-    Word(u32),
-    End,
+// What a word of the input is read as.
+pub trait Word: Copy + PartialEq {
+    fn of(word: u32) -> Self;
+}
+
+impl Word for u32 {
+    fn of(word: u32) -> u32
+        ensures { result ≡ word }
+    {
+        word
+    }
+}
+
+// The low eight bits.
+impl Word for u8 {
+    fn of(word: u32) -> u8
+        ensures { result ≡ word % 256 }
+    {
+        (word % 256) as u8
+    }
 }
 
 // Reads until `bytes` are full or the input ends, and answers how many bytes it read.
@@ -28,39 +46,50 @@ pub fn read_full(reader: &mut impl Read, bytes: &mut [u8]) -> io::Result<usize>
     Ok(done)
 }
 
-fn wide(b: u8) -> u32
-    ensures { result < 256 }
-{
-    b as u32
-}
-
-// The next word, or that the input ends before it does.
-pub fn read_word(rt: &impl Input) -> io::Result<Got> {
+// The next word, of four bytes, the least first; None where the input ends before it does.
+pub fn read_word(rt: &impl Input) -> io::Result<Option<u32>> {
     let mut four = [0u8; 4];
-    let n = read_full(&mut rt.reader(), &mut four)?;
-    if n < 4 {
-        return Ok(Got::End);
+    let count = read_full(&mut rt.reader(), &mut four)?;
+    if count < 4 {
+        return Ok(None);
     }
-    let low = wide(four[0]) + wide(four[1]) * 256;
-    let high = wide(four[2]) + wide(four[3]) * 256;
-    Ok(Got::Word(low + high * 65536))
+    Ok(Some(u32::from_le_bytes(four)))
 }
 
-// Fills the front of `words`; false where the input ends first or there is no room.
-pub fn read_words(rt: &impl Input, words: &mut [u32], count: usize) -> io::Result<bool> {
-    if words.len() < count {
-        return Ok(false);
-    }
-    for i in 0..count {
-        let got = read_word(rt)?;
-        let Got::Word(w) = got else {
+// The next word, or 0 behind the end of the input.
+pub fn next_word(rt: &impl Input) -> io::Result<u32> {
+    Ok(read_word(rt)?.unwrap_or(0))
+}
+
+// Fills `words`; false where the input ends first, and then the words from some place on are what they were.
+pub fn read_words<T: Word>(rt: &impl Input, words: &mut [T]) -> io::Result<bool>
+    ensures { IfOk result
+        (λ full. full ≡ false → (k : ℕ) × (k < length words.old) × (drop k words.new ≡ drop k words.old)) }
+{
+    for word in words.iter_mut() {
+        let Some(next) = read_word(rt)? else {
             return Ok(false);
         };
-        words[i] = w;
+        *word = T::of(next);
     }
     Ok(true)
 }
 
-pub fn print_line(rt: &impl Print, n: u64) -> io::Result<()> {
-    rt.println(n)
+// A count and then so many words, which become the front of `words`; None where the input ends first or there is no room.
+pub fn read_counted<'a, T: Word>(
+    rt: &impl Input,
+    words: &'a mut [T],
+) -> io::Result<Option<&'a mut [T]>>
+    ensures { IfOk result (λ read. IfSome read (λ front. length front.now ≤ length words.old)) }
+{
+    let Some(count) = read_word(rt)? else {
+        return Ok(None);
+    };
+    let Some(front) = words.get_mut(..count as usize) else {
+        return Ok(None);
+    };
+    if read_words(rt, front)? {
+        return Ok(Some(front));
+    }
+    Ok(None)
 }

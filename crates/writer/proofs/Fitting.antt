@@ -10,10 +10,11 @@ use lib.Dec.{leb, lit<}
 use lib.ListN.{length, drop, length-append}
 use borrow.Author.Rules.{rules}
 use borrow.Author.Tests.{le-leb, lt-leb}
-use Rattle.definition.specs.declared.answers.SheetAnswer.TheVariants as writing
+use Rattle.std.specs.Prelude.{Ok, Err}
+use Rattle.definition.specs.declared.answers.Refusal.TheVariants as refusal
 use Rattle.definition.specs.Layout.{count, types, variables, most_records, limits_of_records}
 use Rattle.definition.specs.Lines.{variable_line, completed_line}
-use Rattle.definition.specs.Answers.{says, sheet_says, over, written_answer}
+use Rattle.definition.specs.Answers.{says, number_of, words_say, over, written_answer}
 use Rattle.definition.specs.Uses.{rank_at}
 use Rattle.definition.specs.Sheet.{sheet_with}
 use Rattle.laws.specs.Accepted.{Accepted, count_most, few-types}
@@ -44,7 +45,7 @@ unfolding most_records limits_of_records
 few-variables f a = count_most f a variables (lit< tt)
 
 module _ {f : List ℕ} {t : ℕ} (x : TypesLong f (count f types) t) {w : Both} (y : SectionsLong f (count f variables) w) where
-  module _ {source tables store : List ℕ} (k : Resolved f source tables store) where
+  module _ {tables store : List ℕ} (k : Resolved f tables store) where
     most : t + w.value + w.completed < 2 ^ 32
     most = omega (arith, x.most, y.value.most, y.completed.most, few-types f k.ready.accepted, few-variables f k.ready.accepted)
 
@@ -79,14 +80,14 @@ module _ {f : List ℕ} {at : Places} (x : SheetLong f at) (ranks : List ℕ) wh
   sheet-long : at.end ≡ length (sheet_with f (rank_at ranks))
   sheet-long = rw (sheet-is f ranks) (simp length-append (omega (arith, x.types ranks, x.value, x.completed)))
 
-  pub sheet-short : {old : List ℕ} → length old < at.end → Answers (sheet_with f (rank_at ranks)) old (writing.Refused 10) old
-  unfolding sheet_says written_answer over
+  pub sheet-short : {old : List ℕ} → length old < at.end → Answers (sheet_with f (rank_at ranks)) old (Err refusal.Short) old
+  unfolding number_of words_say written_answer over
   sheet-short {old} h =
       let g : leb (length (sheet_with f (rank_at ranks))) (length old) ≡ false = lt-leb (length (sheet_with f (rank_at ranks))) (length old) (omega (arith, sheet-long)) in
       record { says = rw g; is = rw g }
 
-  pub sheet-written : {old : List ℕ} → at.end ≤ length old → {new : List ℕ} → Puts (sheet_with f (rank_at ranks)) old 0 at.end new → Answers (sheet_with f (rank_at ranks)) old (writing.Written at.end) new
-  unfolding sheet_says written_answer over
+  pub sheet-written : {old : List ℕ} → at.end ≤ length old → {new : List ℕ} → Puts (sheet_with f (rank_at ranks)) old 0 at.end new → Answers (sheet_with f (rank_at ranks)) old (Ok at.end) new
+  unfolding number_of words_say written_answer over
   sheet-written {old} h {new} p =
       let s : List ℕ = sheet_with f (rank_at ranks) in
       let g : leb (length s) (length old) ≡ true = le-leb (length s) (length old) (omega (arith, sheet-long)) in

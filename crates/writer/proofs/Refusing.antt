@@ -7,13 +7,15 @@ use native.Mathlib.Omega.{arith}
 use lib.Dec.{eqb, leb}
 use borrow.Author.Rules.{rules}
 use borrow.Author.Tests.{eqb-true, eqb-false, leb-true, le-leb, lt-leb}
-use Rattle.definition.specs.declared.answers.Acceptance.{Acceptance}
-use Rattle.definition.specs.declared.answers.Acceptance.TheVariants as acceptance
+use Rattle.std.specs.Prelude.{Result, Ok, Err, is_ok, MatchResult}
+use Rattle.definition.specs.declared.answers.Refusal.{Refusal}
+use Rattle.definition.specs.declared.answers.Refusal.TheVariants as refusal
 use Rattle.definition.specs.Base.{choose}
 use Rattle.definition.specs.Accept.{need, verdict}
-use Rattle.definition.specs.Answers.{acceptance_says, accept_answer, line_words, room_words, enough_sheet, write_refused}
+use Rattle.definition.specs.Answers.{number_of, line_words, room_words, enough_sheet, write_refused}
 use Rattle.laws.specs.Cases.{both}
-use Rattle.acceptance.proofs.Wanting.{accepted-so, file-passes, file-refuses}
+use Rattle.records.specs.declared.file.File.{File}
+use Rattle.acceptance.proofs.Wanting.{at-least-one, file-passes, file-refuses}
 use Rattle.writer.specs.Sheets.{Passed}
 
 -- ---- `is_enough`
@@ -26,33 +28,52 @@ module _ (f : List ℕ) (out lines room : ℕ) {n m : ℕ} (q : n ≡ line_words
   unfolding enough_sheet
   enough-so h d = let k : min out (line_words f) ≤ lines = rw (e, q) at h in rw (le-leb (min out (line_words f)) lines k, d)
 
--- ---- `refusal`
-module _ (f : List ℕ) {r : Acceptance} (e : acceptance_says r ≡ accept_answer f) (out lines room : ℕ) where
-  pub refused-file : {n : ℕ} → r ≡ acceptance.Refused n → n ≡ write_refused f out lines room
+-- ---- `admitted`
+module _ (f : List ℕ) (out lines room : ℕ) where
+  pub refused-file : (r : Refusal) → number_of r ≡ verdict f → number_of r ≡ write_refused f out lines room
   unfolding write_refused
-  refused-file q = file-refuses f e (λ u. need (enough_sheet f out lines room) 10 λ v. 0) q
+  refused-file r e = file-refuses f (λ u. need (enough_sheet f out lines room) 10 λ v. 0) r e
 
-  module _ (q : r ≡ acceptance.Accepted) {b : Bool} (s : b ≡ enough_sheet f out lines room) where
+  module _ {g : List ℕ} (q : g ≡ f) (e : verdict f ≡ 0) {b : Bool} (s : b ≡ enough_sheet g out lines room) where
     passes : write_refused f out lines room ≡ need b 10 (λ v. 0)
     unfolding write_refused
-    passes = file-passes f e (λ u. need (enough_sheet f out lines room) 10 λ v. 0) q ∙ ap (λ (b : Bool). need b 10 (λ v. 0)) (sym s)
+    passes =
+        file-passes f (λ u. need (enough_sheet f out lines room) 10 λ v. 0) e
+        ∙ ap (λ (b : Bool). need b 10 (λ v. 0)) (sym (s ∙ ap (λ (l : List ℕ). enough_sheet l out lines room) q))
 
-    pub refused_none : b ≡ true → 0 ≡ write_refused f out lines room
-    refused_none p = sym (passes ∙ ap (λ (b : Bool). need b 10 (λ v. 0)) p)
+    pub refused_none : b ≡ true → write_refused f out lines room ≡ 0
+    refused_none p = passes ∙ ap (λ (b : Bool). need b 10 (λ v. 0)) p
 
-    pub refused-words : b ≡ false → 10 ≡ write_refused f out lines room
+    pub refused-words : b ≡ false → number_of refusal.Short ≡ write_refused f out lines room
+    unfolding number_of
     refused-words p = sym (passes ∙ ap (λ (b : Bool). need b 10 (λ v. 0)) p)
 
-pub ruleset refusing = (rules, enough-not, enough-so, accepted-so, refused-file, refused_none, refused-words)
+pub ruleset refusing = (rules, enough-not, enough-so, refused-file, refused_none, refused-words)
 
 -- ---- what holds where nothing is refused
-pub passed : (f : List ℕ) (out lines room : ℕ) {n : ℕ} → n ≡ write_refused f out lines room → n ≡ 0 → Passed f out lines room
+pub passed : (f : List ℕ) (out lines room : ℕ) → write_refused f out lines room ≡ 0 → Passed f out lines room
 unfolding write_refused enough_sheet
-passed f out lines room {n} e z = go (eqb (verdict f) 0) (enough_sheet f out lines room) refl refl (sym z ∙ e)
+passed f out lines room e = go (eqb (verdict f) 0) (enough_sheet f out lines room) refl refl e
   where
-    go : (b c : Bool) → eqb (verdict f) 0 ≡ b → leb (min out (line_words f)) lines && leb (room_words f) room ≡ c → 0 ≡ choose b (λ u. need c 10 λ v. 0) (λ u. verdict f) → Passed f out lines room
+    go : (b c : Bool) → eqb (verdict f) 0 ≡ b → leb (min out (line_words f)) lines && leb (room_words f) room ≡ c → choose b (λ u. need c 10 λ v. 0) (λ u. verdict f) ≡ 0 → Passed f out lines room
     go true true p s h =
         let w = both (leb (min out (line_words f)) lines) (leb (room_words f) room) s in
         record { accepts = eqb-true (verdict f) 0 p; lined = leb-true (min out (line_words f)) lines w.0; roomy = leb-true (room_words f) room w.1 }
-    go true false p s h = absurd (omega arith)
-    go false c p s h = absurd (eqb-false (verdict f) 0 p (sym h))
+    go true false p s h = absurd (omega (arith, h))
+    go false c p s h = absurd (eqb-false (verdict f) 0 p h)
+
+pub passed-by : {f g : List ℕ} (out lines room : ℕ) → g ≡ f → write_refused f out lines room ≡ 0 → Passed g out lines room
+passed-by {f} out lines room q e = rw q (passed f out lines room e)
+
+-- ---- what is said of the first refusals alone
+module _ (f : List ℕ) (out lines room : ℕ) where
+  abbrev Admits : Result File Refusal → Type 0
+  Admits r = MatchResult r (λ file. (file.source ≡ f) × (write_refused f out lines room ≡ 0)) (λ refusal. number_of refusal ≡ write_refused f out lines room)
+
+  pub admitted-none : (r : Result File Refusal) → Admits r → is_ok r ≡ true → write_refused f out lines room ≡ 0
+  admitted-none (Ok file) m h = m.1
+  admitted-none (Err e) m h = let z : ◌≡◌ {A = ℕ} 0 1 = cc in absurd (omega arith)
+
+  pub admitted-not : (r : Result File Refusal) → Admits r → is_ok r ≡ false → write_refused f out lines room ≡ 0 → ⊥
+  admitted-not (Ok file) m h z = let z : ◌≡◌ {A = ℕ} 0 1 = cc in omega arith
+  admitted-not (Err e) m h z = omega (arith, m, at-least-one e)

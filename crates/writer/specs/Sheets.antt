@@ -1,6 +1,6 @@
 -- What holds on the way from a file to its start sheet.
-use Rattle.std.specs.Prelude.{◌≡◌, List, ℕ, ◌+◌, ◌≤◌, min, length}
-use Rattle.definition.specs.declared.answers.SheetAnswer.{SheetAnswer}
+use Rattle.std.specs.Prelude.{◌≡◌, List, ℕ, ◌+◌, ◌≤◌, min, length, Result}
+use Rattle.definition.specs.declared.answers.Refusal.{Refusal}
 use Rattle.definition.specs.Layout.{count, types, variables}
 use Rattle.definition.specs.Accept.{verdict}
 use Rattle.definition.specs.Answers.{line_words, room_words, over, sheet_says, written_answer, ranked_answer, ranked_out}
@@ -27,11 +27,11 @@ pub record SheetLong (f : List ℕ) (at : Places) : Type 0 where
   pub completed : at.end ≡ at.completed + length (section_of (completed_line f) (count f variables))
 
 -- a sheet is at the front of out, or out is too short
-pub record Answers (sheet old : List ℕ) (r : SheetAnswer) (new : List ℕ) : Type 0 where
+pub record Answers (sheet old : List ℕ) (r : Result ℕ Refusal) (new : List ℕ) : Type 0 where
   pub says : sheet_says r ≡ written_answer sheet (length old)
   pub is : new ≡ over sheet old
 
 -- with the lowest ranks, where there are any
-pub record AnswersRanked (f old : List ℕ) (r : SheetAnswer) (new : List ℕ) : Type 0 where
+pub record AnswersRanked (f old : List ℕ) (r : Result ℕ Refusal) (new : List ℕ) : Type 0 where
   pub says : sheet_says r ≡ ranked_answer f (length old)
   pub is : new ≡ ranked_out f old

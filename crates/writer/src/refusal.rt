@@ -1,43 +1,31 @@
 // What is refused before the ranks are known.
-ghost use Rattle.std.specs.Prelude.{◌≡◌, min};
-ghost use Rattle.definition.specs.Answers.{enough_sheet, write_refused};
-ghost use Rattle.laws.specs.Accepted.{Accepted};
-ghost use Rattle.records.specs.Starts.{StartsOf};
+#![tactic(auto, using(crate::proofs::Refusing::refusing))]
 
-use acceptance::accept::accept;
+ghost use Rattle.std.specs.Prelude.{◌≡◌, MatchResult};
+ghost use Rattle.definition.specs.Answers.{number_of, enough_sheet, write_refused};
+
+use acceptance::accept::accepted;
 use acceptance::work::{lines_of, room_of};
-use definition::answers::Acceptance;
-use records::words::find_sections;
-
-fn lesser(a: usize, b: usize) -> usize
-    ensures { result ≡ min a b }
-{
-    if a < b { a } else { b }
-}
+use definition::answers::Refusal;
+use records::file::File;
 
 // Whether there are enough work words: the lines of types never need more words than the sheet itself.
-fn is_enough(file: &[u32], source: &[usize], out: usize, lines: usize, room: usize) -> bool
-    requires { StartsOf file.now source.now × Accepted file.now }
-    ensures { result ≡ enough_sheet file.now out lines room }
+fn is_enough(file: &File<'_>, out: usize, lines: usize, room: usize) -> bool
+    ensures { result ≡ enough_sheet file.now.source out lines room }
 {
-    if lines < lesser(out, lines_of(file, source)) {
+    if lines < out.min(lines_of(file)) {
         return false;
     }
-    room_of(file, source) <= room
+    room_of(file) <= room
 }
 
-// Refusals 1 to 6, and 10 for too few work words; 0 for none.
-pub fn refusal(file: &[u32], out: usize, lines: usize, room: usize) -> u32
-    ensures { result ≡ write_refused file.now out lines room }
+// The accepted file, where there are enough work words; else refusals 1 to 6, or 10.
+pub fn admitted(words: &[u32], out: usize, lines: usize, room: usize) -> Result<File<'_>, Refusal>
+    ensures { MatchResult result (λ file. (file.source ≡ words.now) × (write_refused words.now out lines room ≡ 0)) (λ refusal. number_of refusal ≡ write_refused words.now out lines room) }
 {
-    match accept(file) {
-        Acceptance::Accepted => {
-            let source = find_sections(file);
-            if is_enough(file, &source, out, lines, room) {
-                return 0;
-            }
-            10
-        }
-        Acceptance::Refused(n) => n,
+    let file = accepted(words)?;
+    if is_enough(&file, out, lines, room) {
+        return Ok(file);
     }
+    Err(Refusal::Short)
 }

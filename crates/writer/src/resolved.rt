@@ -1,4 +1,6 @@
 // The sheet of a file whose types are resolved: counted, and written if it fits.
+#![tactic(auto, using(crate::proofs::Fitting::sheets))]
+
 ghost use Rattle.std.specs.Prelude.{◌≤◌, length};
 ghost use Rattle.definition.specs.Answers.{room_words};
 ghost use Rattle.definition.specs.Sheet.{sheet_with};
@@ -7,7 +9,8 @@ ghost use Rattle.laws.specs.Puts.{Puts};
 ghost use Rattle.sheet_parts.specs.Resolved.{Resolved};
 ghost use Rattle.writer.specs.Sheets.{SheetLong, Answers};
 
-use definition::answers::SheetAnswer;
+use definition::answers::Refusal;
+use records::file::File;
 use sheet_parts::types::{count_types, put_types};
 use sheet_parts::variables::{Both, count_variables, put_variables};
 
@@ -19,18 +22,12 @@ pub struct Places {
     pub end: usize,
 }
 
-fn count_sheet(
-    file: &[u32],
-    source: &[usize],
-    known: &[u32],
-    store: &[u32],
-    room: &mut [u32],
-) -> Places
-    requires { Resolved file.now source.now known.now store.now × (room_words file.now ≤ length room.old) }
-    ensures { SheetLong file.now result }
+fn count_sheet(file: &File<'_>, known: &[u32], store: &[u32], room: &mut [u32]) -> Places
+    requires { Resolved file.now.source known.now store.now × (room_words file.now.source ≤ length room.old) }
+    ensures { SheetLong file.now.source result }
 {
-    let types = count_types(file, source, known, store);
-    let words = count_variables(file, source, known, store, room);
+    let types = count_types(file, known, store);
+    let words = count_variables(file, known, store, room);
     Places {
         value: types,
         completed: types + words.value,
@@ -40,8 +37,7 @@ fn count_sheet(
 
 // The sheet at the front of out, where it fits.
 fn put_sheet(
-    file: &[u32],
-    source: &[usize],
+    file: &File<'_>,
     known: &[u32],
     store: &[u32],
     ranks: &[u32],
@@ -49,34 +45,33 @@ fn put_sheet(
     out: &mut [u32],
     at: Places,
 )
-    requires { Resolved file.now source.now known.now store.now × (room_words file.now ≤ length room.old) × SheetLong file.now at × (at.end ≤ length out.old) }
-    ensures { Puts (sheet_with file.now (rank_at ranks.now)) out.old 0 at.end out.new }
+    requires { Resolved file.now.source known.now store.now × (room_words file.now.source ≤ length room.old) × SheetLong file.now.source at × (at.end ≤ length out.old) }
+    ensures { Puts (sheet_with file.now.source (rank_at ranks.now)) out.old 0 at.end out.new }
 {
-    put_types(file, source, known, store, ranks, out);
+    put_types(file, known, store, ranks, out);
     let variables = Both {
         value: at.value,
         completed: at.completed,
     };
-    put_variables(file, source, known, store, room, out, variables);
+    put_variables(file, known, store, room, out, variables);
 }
 
 // The sheet is counted first: a refusal leaves out as it is.
 pub fn write_resolved(
-    file: &[u32],
-    source: &[usize],
+    file: &File<'_>,
     known: &[u32],
     store: &[u32],
     ranks: &[u32],
     room: &mut [u32],
     out: &mut [u32],
-) -> SheetAnswer
-    requires { Resolved file.now source.now known.now store.now × (room_words file.now ≤ length room.old) }
-    ensures { Answers (sheet_with file.now (rank_at ranks.now)) out.old result out.new }
+) -> Result<usize, Refusal>
+    requires { Resolved file.now.source known.now store.now × (room_words file.now.source ≤ length room.old) }
+    ensures { Answers (sheet_with file.now.source (rank_at ranks.now)) out.old result out.new }
 {
-    let at = count_sheet(file, source, known, store, room);
+    let at = count_sheet(file, known, store, room);
     if out.len() < at.end {
-        return SheetAnswer::Refused(10);
+        return Err(Refusal::Short);
     }
-    put_sheet(file, source, known, store, ranks, room, out, at);
-    SheetAnswer::Written(at.end)
+    put_sheet(file, known, store, ranks, room, out, at);
+    Ok(at.end)
 }

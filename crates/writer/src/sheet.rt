@@ -1,24 +1,23 @@
 // The start sheet. Work words are lent as two slices, one for lines and one for room; they end as 0.
+#![tactic(auto, using(crate::proofs::Whole::whole))]
+
 ghost use Rattle.std.specs.Prelude.{◌≡◌, length};
 ghost use Rattle.definition.specs.Layout as Layout;
 ghost use Rattle.definition.specs.Answers.{sheet_says, cleared, write_answer, write_out};
 ghost use Rattle.definition.specs.Sheet.{sheet_with};
 ghost use Rattle.definition.specs.Uses.{rank_at};
-ghost use Rattle.records.specs.Starts.{StartsOf, DeclaredIn};
 ghost use Rattle.driver.specs.Driver.{Given};
 ghost use Rattle.writer.specs.Sheets.{Answers, AnswersRanked, Passed, LowestRanks};
 
-use crate::refusal::refusal;
+use crate::refusal::admitted;
 use crate::resolved::write_resolved;
-use definition::answers::SheetAnswer;
+use definition::answers::Refusal;
 use definition::layout::TYPES;
 use driver::every::resolve_types;
 use driver::tables::KNOWN_WORDS;
-use lines::append::Stored;
 use lines::clear::clear;
-use places::declared::source_of;
-use ranks::lowest::{Ranked, lowest_ranks};
-use records::words::count;
+use ranks::lowest::{Circle, lowest_ranks};
+use records::file::File;
 use shapes::classes::shape_classes;
 
 // A file has at most 1,024 types.
@@ -26,89 +25,95 @@ const RANK_WORDS: usize = 1024;
 
 // Every type is resolved first. A store that is too short for the lines of types is too short for the sheet.
 fn write_given(
-    file: &[u32],
-    source: &[usize],
+    file: &File<'_>,
     known: &mut [u32],
     ranks: &[u32],
     out: &mut [u32],
     lines: &mut [u32],
     room: &mut [u32],
-) -> SheetAnswer
-    requires { Given file.now source.now known.old (length room.old) × Passed file.now (length out.old) (length lines.old) (length room.old) × LowestRanks file.now ranks.now }
-    ensures { Answers (sheet_with file.now (rank_at ranks.now)) out.old result out.new }
+) -> Result<usize, Refusal>
+    requires { Given file.now.source known.old (length room.old) × Passed file.now.source (length out.old) (length lines.old) (length room.old) × LowestRanks file.now.source ranks.now }
+    ensures { Answers (sheet_with file.now.source (rank_at ranks.now)) out.old result out.new }
 {
-    let stored = resolve_types(file, source, known, lines, room);
-    match stored {
-        Stored::Ends(end) => {
-            write_resolved(file, source, &known[..], &lines[..], ranks, room, out)
-        }
-        Stored::Full => SheetAnswer::Refused(10),
+    match resolve_types(file, known, lines, room) {
+        Some(end) => write_resolved(file, &known[..], &lines[..], ranks, room, out),
+        None => Err(Refusal::Short),
     }
 }
 
 fn write_ranked(
-    file: &[u32],
-    source: &[usize],
+    file: &File<'_>,
     ranks: &[u32],
     out: &mut [u32],
     lines: &mut [u32],
     room: &mut [u32],
-) -> SheetAnswer
-    requires { StartsOf file.now source.now × DeclaredIn file.now source.now × Passed file.now (length out.old) (length lines.old) (length room.old) × LowestRanks file.now ranks.now }
-    ensures { Answers (sheet_with file.now (rank_at ranks.now)) out.old result out.new }
+) -> Result<usize, Refusal>
+    requires { Passed file.now.source (length out.old) (length lines.old) (length room.old) × LowestRanks file.now.source ranks.now }
+    ensures { Answers (sheet_with file.now.source (rank_at ranks.now)) out.old result out.new }
 {
     let mut known = [0u32; KNOWN_WORDS];
-    shape_classes(file, source, &mut known);
-    write_given(file, source, &mut known, ranks, out, lines, room)
+    shape_classes(file, &mut known);
+    write_given(file, &mut known, ranks, out, lines, room)
 }
 
 // The lowest ranks, in lent words, or refusal 9.
 fn write_lowest(
-    file: &[u32],
-    source: &[usize],
+    file: &File<'_>,
     ranks: &mut [u32],
     out: &mut [u32],
     lines: &mut [u32],
     room: &mut [u32],
-) -> SheetAnswer
-    requires { StartsOf file.now source.now × DeclaredIn file.now source.now × Passed file.now (length out.old) (length lines.old) (length room.old) × (length ranks.old ≡ Layout.count file.now Layout.types) }
-    ensures { AnswersRanked file.now out.old result out.new }
+) -> Result<usize, Refusal>
+    requires { Passed file.now.source (length out.old) (length lines.old) (length room.old) × (length ranks.old ≡ Layout.count file.now.source Layout.types) }
+    ensures { AnswersRanked file.now.source out.old result out.new }
 {
-    match lowest_ranks(file, source, ranks) {
-        Ranked::Ranks => write_ranked(file, source, &ranks[..], out, lines, room),
-        Ranked::Circle => SheetAnswer::Refused(9),
+    match lowest_ranks(file, ranks) {
+        Ok(()) => write_ranked(file, &ranks[..], out, lines, room),
+        Err(Circle) => Err(Refusal::Circle),
     }
 }
 
-fn write_passed(file: &[u32], out: &mut [u32], lines: &mut [u32], room: &mut [u32]) -> SheetAnswer
-    requires { Passed file.now (length out.old) (length lines.old) (length room.old) }
-    ensures { AnswersRanked file.now out.old result out.new }
+fn write_passed(
+    file: &File<'_>,
+    out: &mut [u32],
+    lines: &mut [u32],
+    room: &mut [u32],
+) -> Result<usize, Refusal>
+    requires { Passed file.now.source (length out.old) (length lines.old) (length room.old) }
+    ensures { AnswersRanked file.now.source out.old result out.new }
 {
-    let source = source_of(file);
-    let many = count(file, &source, TYPES) as usize;
+    let many = file.source.count(TYPES) as usize;
     let mut ranks = [0u32; RANK_WORDS];
-    write_lowest(file, &source, &mut ranks[..many], out, lines, room)
+    write_lowest(file, &mut ranks[..many], out, lines, room)
+}
+
+// The sheet or the first refusal. The work words are left as they come.
+fn sheet_answer(
+    words: &[u32],
+    out: &mut [u32],
+    lines: &mut [u32],
+    room: &mut [u32],
+) -> Result<usize, Refusal>
+    ensures answer { sheet_says result ≡ write_answer words.now (length out.old) (length lines.old) (length room.old) }
+    ensures out { out.new ≡ write_out words.now out.old (length lines.old) (length room.old) }
+{
+    let file = admitted(words, out.len(), lines.len(), room.len())?;
+    write_passed(&file, out, lines, room)
 }
 
 // The start sheet of a file, at the front of out.
 pub fn write_sheet(
-    file: &[u32],
+    words: &[u32],
     out: &mut [u32],
     lines: &mut [u32],
     room: &mut [u32],
-) -> SheetAnswer
-    ensures answer { sheet_says result ≡ write_answer file.now (length out.old) (length lines.old) (length room.old) }
-    ensures out { out.new ≡ write_out file.now out.old (length lines.old) (length room.old) }
+) -> Result<usize, Refusal>
+    ensures answer { sheet_says result ≡ write_answer words.now (length out.old) (length lines.old) (length room.old) }
+    ensures out { out.new ≡ write_out words.now out.old (length lines.old) (length room.old) }
     ensures lines { lines.new ≡ cleared lines.old }
     ensures room { room.new ≡ cleared room.old }
 {
-    let refused = refusal(file, out.len(), lines.len(), room.len());
-    if refused != 0 {
-        clear(lines);
-        clear(room);
-        return SheetAnswer::Refused(refused);
-    }
-    let answer = write_passed(file, out, lines, room);
+    let answer = sheet_answer(words, out, lines, room);
     clear(lines);
     clear(room);
     answer

@@ -40,11 +40,8 @@ use Rattle.tree.specs.Words.{Stand}
 use Rattle.tree.proofs.Standing.{named-there}
 use Rattle.tree.proofs.Fields.{stands-long}
 use Rattle.places.specs.Inside.{PlaceIn, element-shape, element-in, field_found, structure-fields}
-use Rattle.places.specs.Found.{place_in, block_run, names_of, names-of-run}
-use Rattle.places.specs.declared.field.Found.{Found}
-use Rattle.places.specs.declared.field.Found.TheVariants as found
-use Rattle.places.specs.declared.block.Block.{Block}
-use Rattle.places.specs.declared.block.Block.TheVariants as block
+use Rattle.definition.specs.Ask.{result_of}
+use Rattle.places.specs.Found.{block_run, names_of, names-of-run}
 use Rattle.places.proofs.field.Laws.{linked-type, place-linked, fields_fit}
 use Rattle.places.proofs.block.Laws.{block-fits}
 use Rattle.laws.specs.Links.{link-to}
@@ -57,6 +54,9 @@ use Rattle.build.proofs.Peeks.{then_peek, peek-then, NoEnd, ends-not, gives-fail
 use Rattle.build.proofs.Levels.{levels-implicit, levels-typed, levels-some, element-levels, field-levels}
 use Rattle.build.proofs.Smalls.{default-small, elements-small, default-whole, default-after}
 use Rattle.build.proofs.Gathers.{SoFar, so-far-none, so_far_skip, so-far-all, so-far-fails, so_far_more}
+use Rattle.std.specs.Prelude.{Option, Some}
+use Rattle.std.specs.Prelude as std
+use Rattle.places.specs.declared.block.Run.{Run}
 
 -- ---- the same computation
 module _ {A : Type 0} {f known store : List ℕ} {words : A → List ℕ} {at : ℕ} {old : List ℕ} {r : Built} {new : List ℕ} where
@@ -182,15 +182,15 @@ module _ {f : List ℕ} (a : Accepted f) {place : Place} (i : PlaceIn f place) w
           kept = h.kept;
         }
 
-    module _ {n : ℕ} (e : place.shape ≡ shape.FunctionBlock n) {b : Block} (q : b ≡ block_run f place) where
-      pub implicit-block : {first many : ℕ} → b ≡ block.Fields first many
-          → Builds f known store flatten (structured (fields_by f (default_of f) place (listed_names f 6 first many))) at old r new → Builds f known store flatten (implicit f place) at old r new
+    module _ {n : ℕ} (e : place.shape ≡ shape.FunctionBlock n) {b : Option Run} (q : b ≡ block_run f place) where
+      pub implicit-block : {run : Run} → b ≡ Some run
+          → Builds f known store flatten (structured (fields_by f (default_of f) place (listed_names f 6 run.first run.count))) at old r new → Builds f known store flatten (implicit f place) at old r new
       unfolding names_of ◌>>=◌ bind
-      implicit-block {first} {many} k h =
-          let w : block_field_names f place ≡ ok (block_names f first many) = names-of-run f place ∙ ap (names_of f) (sym q ∙ k) in
+      implicit-block {run} k h =
+          let w : block_field_names f place ≡ ok (block_names f run.first run.count) = names-of-run f place ∙ ap (names_of f) (sym q ∙ k) in
           same _ (implicit f place)
           (by_shape ∙ ap shaped e ∙ ap (λ (x : Result (List ℕ)). done x >>= λ names. structured (fields_by f (default_of f) place names)) w
-          ∙ ap (λ (l : List ℕ). structured (fields_by f (default_of f) place l)) (sym (block_listed f first many))) h
+          ∙ ap (λ (l : List ℕ). structured (fields_by f (default_of f) place l)) (sym (block_listed f run.first run.count))) h
 
     -- the values of the elements, under the array's head, are the array
     pub implicit-array : {s first many : ℕ} → place.shape ≡ shape.Array s first many
@@ -208,7 +208,7 @@ module _ {f : List ℕ} (a : Accepted f) {place : Place} (i : PlaceIn f place) w
         go M (got large) k x = record { says = x.says; stands = tt }
         go M (wants d) k x = record { says = x.says; stands = tt }
 
-  pub block_none : {known store : List ℕ} {at : ℕ} {old : List ℕ} {n : ℕ} → place.shape ≡ shape.FunctionBlock n → {b : Block} → b ≡ block_run f place → b ≡ block.None
+  pub block_none : {known store : List ℕ} {at : ℕ} {old : List ℕ} {n : ℕ} → place.shape ≡ shape.FunctionBlock n → {b : Option Run} → b ≡ block_run f place → b ≡ std.None
       → Builds f known store flatten (implicit f place) at old None old
   unfolding names_of ◌>>=◌ bind
   block_none e q k =
@@ -222,21 +222,25 @@ module _ {f : List ℕ} (a : Accepted f) {place : Place} (i : PlaceIn f place) w
 pub structure-fits : {f : List ℕ} → Accepted f → {place : Place} → PlaceIn f place → {first many : ℕ} → place.shape ≡ shape.Structure first many → first + many < 2 ^ 32
 structure-fits a i e = fields_fit a (structure-fields i e)
 
-module _ {f : List ℕ} (a : Accepted f) {place : Place} (i : PlaceIn f place) {b : Block} (q : b ≡ block_run f place) {first many : ℕ} (k : b ≡ block.Fields first many) where
-  pub block-run-fits : first + many < 2 ^ 32
+module _ {f : List ℕ} (a : Accepted f) {place : Place} (i : PlaceIn f place) {b : Option Run} (q : b ≡ block_run f place) {run : Run} (k : b ≡ Some run) where
+  abbrev run_of : ℕ → Run
+  run_of b = record { first = word f Layout.types b 9; count = word f Layout.types b 10 }
+
+  pub block-run-fits : run.first + run.count < 2 ^ 32
   unfolding block_run
   block-run-fits = typed place.id refl (sym q ∙ k)
     where
-      recorded : (t l : ℕ) → IsType f t → recorded_block f t ≡ l → on_link l block.None (λ b. block.Fields (word f Layout.types b 9) (word f Layout.types b 10)) ≡ block.Fields first many → first + many < 2 ^ 32
-      recorded t zero h e z = let y : ◌≡◌ {A = ℕ} 0 1 = cc in absurd (omega arith)
+      recorded : (t l : ℕ) → IsType f t → recorded_block f t ≡ l → on_link l std.None (λ b. Some (run_of b)) ≡ Some run → run.first + run.count < 2 ^ 32
+      recorded t zero h e z = cc
       recorded t (suc d) h e z =
           let u : suc d - 1 ≡ d = omega arith in
-          let v : first ≡ word f Layout.types (suc d - 1) 9 = rw u (cc) in
-          let w : many ≡ word f Layout.types (suc d - 1) 10 = rw u (cc) in
+          let x : run_of d ≡ run = cc in
+          let v : run.first ≡ word f Layout.types (suc d - 1) 9 = rw u (sym (ap (λ (y : Run). y.first) x)) in
+          let w : run.count ≡ word f Layout.types (suc d - 1) 10 = rw u (sym (ap (λ (y : Run). y.count) x)) in
           block-fits f t (sym e) (λ y. omega arith) v w a h
 
-      typed : (l : ℕ) → place.id ≡ l → on_link l block.None (λ t. on_link (recorded_block f t) block.None (λ b. block.Fields (word f Layout.types b 9) (word f Layout.types b 10))) ≡ block.Fields first many → first + many < 2 ^ 32
-      typed zero e z = let y : ◌≡◌ {A = ℕ} 0 1 = cc in absurd (omega arith)
+      typed : (l : ℕ) → place.id ≡ l → on_link l std.None (λ t. on_link (recorded_block f t) std.None (λ b. Some (run_of b))) ≡ Some run → run.first + run.count < 2 ^ 32
+      typed zero e z = cc
       typed (suc t) e z = recorded t (recorded_block f t) (link-to (IsType f) place.id t e i.types.type) refl z
 
 -- ---- `element_defaults`
@@ -310,19 +314,19 @@ one-gives to name t e new x =
     let y : Stand new to (flatten_all (one (named name t))) e = rw (flatten_all-one (named name t)) x in
     record { says = ap Ends (sym y.long); stands = rw y.long y }
 
-module _ (f : List ℕ) (place : Place) (name : ℕ) (w : Found) (k : place_in w ≡ field_place f place name) where
-  pub field-none : {known store : List ℕ} {at to : ℕ} {old : List ℕ} → w ≡ found.None → BuildsField f known store place name at to old None old
+module _ (f : List ℕ) (place : Place) (name : ℕ) (w : Option Place) (k : result_of w ≡ field_place f place name) where
+  pub field-none : {known store : List ℕ} {at to : ℕ} {old : List ℕ} → w ≡ std.None → BuildsField f known store place name at to old None old
   field-none e =
-      let z : field_place f place name ≡ none = sym k ∙ ap place_in e in
+      let z : field_place f place name ≡ none = sym k ∙ ap result_of e in
       record {
         gives = λ size u M m. rw (peek-field f place name M size, z) (record { says = refl; stands = tt });
         ends = λ e q. let z : ◌≡◌ {A = ℕ} 0 1 = cc in absurd (omega arith);
         kept = refl;
       }
 
-  module _ {inner : Place} (e : w ≡ found.Place inner) where
+  module _ {inner : Place} (e : w ≡ Some inner) where
     peek-inner : (M : Memo) (size : ℕ) → peek M (field_ask f place name size) ≡ then_peek (peek M (default_of f inner)) (λ t. peek M (field size name t))
-    peek-inner M size = peek-field f place name M size ∙ ap (λ (r : Result Place). then_peek (then_peek (got r) (λ p. peek M (default_of f p))) (λ t. peek M (field size name t))) (sym k ∙ ap place_in e)
+    peek-inner M size = peek-field f place name M size ∙ ap (λ (r : Result Place). then_peek (then_peek (got r) (λ p. peek M (default_of f p))) (λ t. peek M (field size name t))) (sym k ∙ ap result_of e)
 
     pub field_in : Accepted f → PlaceIn f place → PlaceIn f inner
     field_in a i = field_found f a place name i k e

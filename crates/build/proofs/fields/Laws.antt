@@ -8,13 +8,13 @@ use lib.ListN.{length, set}
 use borrow.Author.Rules.{rules}
 use borrow.Author.Tests.{le-leb, lt-ltb, le-ltb, ne_eqb, eq-eqb}
 use Rattle.definition.specs.Layout.{word}
-use Rattle.tree.specs.declared.extent.Extent.{Extent}
 use Rattle.tree.specs.Words.{WroteNode}
 use Rattle.tree.specs.Node.{head_words}
 use Rattle.build.specs.declared.built.Built.TheVariants.{Ends, TooLarge}
 use Rattle.definition.specs.Tree.{tree_words}
 use Rattle.build.specs.Parts.{is_listed}
 use Rattle.build.specs.Fields.{NamesField, HeadsStructure}
+use Rattle.std.specs.Prelude.{Option}
 
 -- ---- `is_listed`
 pub listed-other : (f : List ℕ) (section k : ℕ) → (section ≡ 6 → ⊥) → true ≡ is_listed f section k
@@ -34,7 +34,7 @@ module _ (at to end name : ℕ) (old : List ℕ) where
   field-named h = let t = le-ltb tree_words (end - at) h in record { says = rw t; is = rw t }
 
 -- ---- `head_structure`
-pub structure-headed : (at made end : ℕ) (old : List ℕ) → at + 6 ≤ length old → {w : Extent} {new : List ℕ} → WroteNode old at (head_words 14 made) w new
+pub structure-headed : (at made end : ℕ) (old : List ℕ) → at + 6 ≤ length old → {w : Option ℕ} {new : List ℕ} → WroteNode old at (head_words 14 made) w new
     → HeadsStructure at made end old (Ends end) new
 structure-headed at made end old h x = record { says = refl; is = rw (le-leb (at + 6) (length old) h) at x.is }
 

@@ -15,16 +15,14 @@ use Rattle.definition.specs.Tree.{flatten, leaf, constant_tree}
 use Rattle.definition.specs.Ask.{Outcome}
 use Rattle.definition.specs.Peek.{got}
 use Rattle.definition.specs.Scalar.{as_tree, built_in}
-use Rattle.tree.specs.declared.extent.Extent.{Extent}
-use Rattle.tree.specs.declared.extent.Extent.TheVariants as extent
 use Rattle.tree.specs.Words.{WroteNode}
 use Rattle.tree.proofs.Standing.{wrote-so-is, leaf-there}
-use Rattle.scalar.specs.declared.node.Leaf.{Leaf}
-use Rattle.scalar.specs.declared.node.Leaf.TheVariants as leaves
-use Rattle.scalar.specs.Node.{result_of}
+use Rattle.definition.specs.Ask.{result_of}
 use Rattle.build.specs.declared.built.Built.{Built}
 use Rattle.build.specs.declared.built.Built.TheVariants.{Ends, None}
 use Rattle.build.specs.Built.{Puts}
+use Rattle.std.specs.Prelude.{Option, Some}
+use Rattle.std.specs.Prelude as std
 
 -- ---- what is pasted at a place leaves what lies before it
 pub paste-kept : (old : List ℕ) (at : ℕ) (src : List ℕ) (n : ℕ) → at ≤ length old → take at (paste old at src n) ≡ take at old
@@ -35,9 +33,9 @@ leaf-long : (kind sign low high width : ℕ) → length (flatten (leaf kind sign
 unfolding flatten leaf
 leaf-long kind sign low high width = refl
 
-module _ (l : Leaf) (old : List ℕ) (at : ℕ) (h : at + 6 ≤ length old) where
-  pub leaf-put : {c : Constant} → l ≡ leaves.Value c → {w : Extent} {new : List ℕ} → WroteNode old at (flatten (leaf c.kind c.sign c.low c.high c.width)) w new
-      → {e : ℕ} → w ≡ extent.Ends e → Puts flatten (got (as_tree (result_of l))) at old (Ends e) new
+module _ (l : Option Constant) (old : List ℕ) (at : ℕ) (h : at + 6 ≤ length old) where
+  pub leaf-put : {c : Constant} → l ≡ Some c → {w : Option ℕ} {new : List ℕ} → WroteNode old at (flatten (leaf c.kind c.sign c.low c.high c.width)) w new
+      → {e : ℕ} → w ≡ Some e → Puts flatten (got (as_tree (result_of l))) at old (Ends e) new
   unfolding as_tree constant_tree
   leaf-put {c} i {w} {new} x {e} q =
       let z = wrote-so-is (leb (at + 6) (length old)) x q in
@@ -48,13 +46,13 @@ module _ (l : Leaf) (old : List ℕ) (at : ℕ) (h : at + 6 ≤ length old) wher
         kept = ap (take at) z.2 ∙ paste-kept old at (flatten (leaf c.kind c.sign c.low c.high c.width)) 6 (omega arith);
       })
 
-  pub leaf-not : {ws : List ℕ} {w : Extent} {new : List ℕ} → WroteNode old at ws w new → w ≡ extent.Not → Puts flatten (got (as_tree (result_of l))) at old None new
+  pub leaf-not : {ws : List ℕ} {w : Option ℕ} {new : List ℕ} → WroteNode old at ws w new → w ≡ std.None → Puts flatten (got (as_tree (result_of l))) at old None new
   leaf-not {ws} {w} x q =
       let t : leb (at + 6) (length old) ≡ true = le-leb (at + 6) (length old) h in
-      let s : w ≡ extent.Ends (at + 6) = rw t at x.says in
+      let s : w ≡ Some (at + 6) = rw t at x.says in
       let z : ◌≡◌ {A = ℕ} 0 1 = cc in absurd (omega arith)
 
-pub leaf-none : (l : Leaf) (old : List ℕ) (at : ℕ) → l ≡ leaves.None → Puts flatten (got (as_tree (result_of l))) at old None old
+pub leaf-none : (l : Option Constant) (old : List ℕ) (at : ℕ) → l ≡ std.None → Puts flatten (got (as_tree (result_of l))) at old None old
 unfolding as_tree
 leaf-none l old at i = rw i (record { gives = record { says = refl; stands = tt }; kept = refl })
 

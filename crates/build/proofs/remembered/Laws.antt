@@ -18,8 +18,6 @@ use Rattle.laws.specs.Values.{Small}
 use Rattle.laws.specs.Whole.{flatten-length}
 use Rattle.lines.specs.declared.look.Remembered.{Remembered}
 use Rattle.lines.specs.declared.look.Remembered.TheVariants as look
-use Rattle.lines.specs.declared.copy.Copied.{Copied}
-use Rattle.lines.specs.declared.copy.Copied.TheVariants as copied
 use Rattle.lines.specs.Look.{remembered_of}
 use Rattle.lines.specs.Copy.{copy_fits, copied_words, Copies}
 use Rattle.lines.proofs.Meanings.{copy-unknown, copy-none, copy-large, copy-ends, copy-full, copy-stands}
@@ -28,6 +26,10 @@ use Rattle.build.specs.declared.built.Built.TheVariants.{Ends, None, TooLarge, W
 use Rattle.definition.specs.Tree.{tree_words}
 use Rattle.build.specs.Built.{index_in, Gives, Memory, Builds}
 use Rattle.build.proofs.leaves.Laws.{paste-kept}
+use Rattle.std.specs.Prelude.{Err, Ok}
+use Rattle.std.specs.Prelude as std
+use Rattle.lines.specs.declared.copy.Uncopied.TheVariants as uncopied
+use Rattle.lines.specs.declared.copy.Uncopied.{Uncopied}
 
 copied-kept : (store old : List ℕ) (at : ℕ) → at ≤ length old → (w : Remembered) → take at (copied_words w store old at) ≡ take at old
 unfolding copied_words
@@ -40,35 +42,38 @@ copied-kept store old at h (look.Tree a n) = go (copy_fits store a n old at)
     go true = paste-kept old at (drop a store) (n * 6) h
     go false = refl
 
-module _ (f known : List ℕ) {t : ℕ} (i : IsType f t) {store old : List ℕ} {at : ℕ} {r : Copied} {new : List ℕ} (c : Copies (index_in known) store t old at r new) (h : at + tree_words ≤ length old) where
+module _ (f known : List ℕ) {t : ℕ} (i : IsType f t) {store old : List ℕ} {at : ℕ} {r : std.Result ℕ Uncopied} {new : List ℕ} (c : Copies (index_in known) store t old at r new) (h : at + tree_words ≤ length old) where
   kept : take at new ≡ take at old
   kept = ap (take at) c.is ∙ copied-kept store old at (omega arith) (remembered_of (index_in known) store t)
 
   inside : (M : Memo) → Memory f known store M → t < length M
   inside M m = omega (arith, m.all)
 
-  pub type-wanted : r ≡ copied.Unknown → Builds f known store trees.flatten (type_default t) at old (Wanted t) new
-  type-wanted e =
+  pub type-wanted : {u : Uncopied} → r ≡ Err u → u ≡ uncopied.Unknown → Builds f known store trees.flatten (type_default t) at old (Wanted t) new
+  type-wanted i j =
+      let e : r ≡ Err uncopied.Unknown = cc in
       record {
         gives = λ M m. rw (peek-asked M t (copy-unknown m.remembers t (inside M m) c e).0) (record { says = refl; stands = tt });
         kept = kept;
       }
 
-  pub type-none : r ≡ copied.None → Builds f known store trees.flatten (type_default t) at old None new
-  type-none e =
+  pub type-none : {u : Uncopied} → r ≡ Err u → u ≡ uncopied.None → Builds f known store trees.flatten (type_default t) at old None new
+  type-none i j =
+      let e : r ≡ Err uncopied.None = cc in
       record {
         gives = λ M m. rw (peek-known M t none (copy-none m.remembers t (inside M m) c e).0) (record { says = refl; stands = tt });
         kept = kept;
       }
 
-  pub type-large : r ≡ copied.TooLarge → Builds f known store trees.flatten (type_default t) at old TooLarge new
-  type-large e =
+  pub type-large : {u : Uncopied} → r ≡ Err u → u ≡ uncopied.TooLarge → Builds f known store trees.flatten (type_default t) at old TooLarge new
+  type-large i j =
+      let e : r ≡ Err uncopied.TooLarge = cc in
       record {
         gives = λ M m. rw (peek-known M t large (copy-large m.remembers t (inside M m) c e).0) (record { says = refl; stands = tt });
         kept = kept;
       }
 
-  pub type-ends : {e : ℕ} → r ≡ copied.Ends e → Builds f known store trees.flatten (type_default t) at old (Ends e) new
+  pub type-ends : {e : ℕ} → r ≡ Ok e → Builds f known store trees.flatten (type_default t) at old (Ends e) new
   type-ends {e} q = record { gives = go; kept = kept }
     where
       go : (M : Memo) → Memory f known store M → Gives trees.flatten (peek M (type_default t)) at (Ends e) new
@@ -78,9 +83,12 @@ module _ (f known : List ℕ) {t : ℕ} (i : IsType f t) {store old : List ℕ} 
           rw (peek-known M t (ok y.tree) y.is) (record { says = ap Ends (sym n); stands = rw n (copy-stands y) })
 
   -- there is room for every tree
-  pub type-full : r ≡ copied.Full → Builds f known store trees.flatten (type_default t) at old None new
-  type-full q = record { gives = go; kept = kept }
+  pub type-full : {u : Uncopied} → r ≡ Err u → u ≡ uncopied.Full → Builds f known store trees.flatten (type_default t) at old None new
+  type-full i j = record { gives = go; kept = kept }
     where
+      q : r ≡ Err uncopied.Full
+      q = cc
+
       go : (M : Memo) → Memory f known store M → Gives trees.flatten (peek M (type_default t)) at None new
       go M m =
           let y = copy-full m.remembers t (inside M m) c q in

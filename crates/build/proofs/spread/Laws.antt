@@ -20,9 +20,6 @@ use Rattle.definition.specs.Parts.{flat, repeated_defaults}
 use Rattle.definition.specs.Resolve.{Memo}
 use Rattle.definition.specs.Peek.{got, peek}
 use Rattle.laws.specs.Whole.{Good, nodes-some, nodes-parts, nodes_in-one, many-one, many-times, flatten_all-one}
-use Rattle.tree.specs.declared.extent.Extent.{Extent}
-use Rattle.tree_changes.specs.declared.grow.Grown.{Grown}
-use Rattle.tree_changes.specs.declared.grow.Grown.TheVariants as grown
 use Rattle.tree.specs.declared.part.Value.{Value}
 use Rattle.tree.specs.declared.part.Value.TheVariants as value
 use Rattle.tree.specs.Words.{Stand, WroteNode, WroteShift, movable}
@@ -38,6 +35,10 @@ use Rattle.build.specs.Parts.{array_words, Spreads, WholeAt}
 use Rattle.build.specs.Spread.{FlatAt, Flattens}
 use Rattle.build.proofs.Peeks.{kept-before}
 use Rattle.build.proofs.leaves.Laws.{paste-kept}
+use Rattle.std.specs.Prelude.{Err, Ok, Option, Some}
+use Rattle.std.specs.Prelude as std
+use Rattle.tree_changes.specs.declared.grow.Unfit.TheVariants as unfit
+use Rattle.tree_changes.specs.declared.grow.Unfit.{Unfit}
 
 -- ---- how many nodes a tree has that stands between two places
 pub nodes-between : (s : List ℕ) (at : ℕ) (t : Tree) (end : ℕ) → Stand s at (flatten t) end → (end - at) / 6 ≡ nodes t
@@ -79,22 +80,29 @@ flat-parts : (t : Tree) → (head t).kind ≡ 13 → flat t ≡ parts t
 unfolding flat
 flat-parts t e = rw (eq-eqb (head t).kind 13 e)
 
-module _ (at end : ℕ) (old : List ℕ) {v : Value} (e : v ≡ value_at old at) where
-  pub values_one : NoArray v → Flattens at end old 1 ((end - at) / 6) old
-  values_one n = record { gives = go; kept = refl }
+module _ (at end : ℕ) (old : List ℕ) {v : Option Value} (e : v ≡ value_at old at) where
+  pub values_none : v ≡ std.None → {count nodes : ℕ} → Flattens at end old count nodes old
+  values_none i = record { gives = λ t g x. let q = value_there old at t end g x in cc; kept = refl }
+
+  pub values_one : {x : Value} → v ≡ Some x → NoArray x → Flattens at end old 1 ((end - at) / 6) old
+  values_one {x = w} i n = record { gives = go; kept = refl }
     where
       go : (t : Tree) → Good t → Stand old at (flatten t) end → FlatAt old at 1 ((end - at) / 6) t
       go t g x =
-          let q : v ≡ value_is t = e ∙ value_there old at t end g x in
+          let z : v ≡ Some (value_is t) = e ∙ value_there old at t end g x in
+          let q : w ≡ value_is t = cc in
           let o : flat t ≡ one t = flat-one t (rw q at n) in
           let k = nodes-between old at t end x in
           let m : at + (end - at) / 6 * 6 ≡ end = omega (arith, stands-long old at t end x) in
           record { counts = rw o (many-one t); sizes = rw o (nodes_in-one t ∙ sym k); stands = rw (o, m, flatten_all-one t) x }
 
-  pub values-parts : WholeAt old at end → {count : ℕ} → v ≡ value.Array count → {w : Extent} {new : List ℕ} → WroteShift old (at + 6) (((end - at) / 6 - 1) * 6) at w new
+  pub values-parts : WholeAt old at end → {x : Value} → v ≡ Some x → {count : ℕ} → x ≡ value.Array count → {w : Option ℕ} {new : List ℕ} → WroteShift old (at + 6) (((end - at) / 6 - 1) * 6) at w new
       → Flattens at end old count ((end - at) / 6 - 1) new
-  values-parts whole {count} i {w} {new} y = record { gives = go; kept = ap (take at) pasted ∙ paste-kept old at (drop (at + 6) old) n (omega (arith, whole-head whole)) }
+  values-parts whole {x} a {count} b {w} {new} y = record { gives = go; kept = ap (take at) pasted ∙ paste-kept old at (drop (at + 6) old) n (omega (arith, whole-head whole)) }
     where
+      i : v ≡ Some (value.Array count)
+      i = cc
+
       n : ℕ
       n = ((end - at) / 6 - 1) * 6
 
@@ -110,7 +118,8 @@ module _ (at end : ℕ) (old : List ℕ) {v : Value} (e : v ≡ value_at old at)
 
       go : (t : Tree) → Good t → Stand old at (flatten t) end → FlatAt new at count ((end - at) / 6 - 1) t
       go t g x =
-          let q : value_is t ≡ value.Array count = sym (value_there old at t end g x) ∙ sym e ∙ i in
+          let p : Some (value_is t) ≡ Some (value.Array count) = sym (value_there old at t end g x) ∙ sym e ∙ i in
+          let q : value_is t ≡ value.Array count = cc in
           let z = kind-array t count g q in
           let o : flat t ≡ parts t = flat-parts t z.0 in
           let k = nodes-between old at t end x in
@@ -133,19 +142,19 @@ mutual
   many-least (tcons t ts) = omega (arith, many-least ts, nodes-some t)
 
 -- an answer that is an end: both tests held, and the words are there
-grew-ends : (small test : Bool) {old : List ℕ} {at : ℕ} {src : List ℕ} {n : ℕ} {r : Grown} {new : List ℕ} → Grew small test old at src n r new → {e : ℕ} → r ≡ grown.Ends e
+grew-ends : (small test : Bool) {old : List ℕ} {at : ℕ} {src : List ℕ} {n : ℕ} {r : std.Result ℕ Unfit} {new : List ℕ} → Grew small test old at src n r new → {e : ℕ} → r ≡ Ok e
     → (small ≡ true) × (e ≡ at + n) × (new ≡ paste old at src n)
 grew-ends true true q i = let z = q.says in (refl, cc, q.is)
 grew-ends true false q i = let z = q.says in let y : ◌≡◌ {A = ℕ} 0 1 = cc in absurd (omega arith)
 grew-ends false test q i = let z = q.says in let y : ◌≡◌ {A = ℕ} 0 1 = cc in absurd (omega arith)
 
-grew-large : (small test : Bool) {old : List ℕ} {at : ℕ} {src : List ℕ} {n : ℕ} {r : Grown} {new : List ℕ} → Grew small test old at src n r new → r ≡ grown.TooLarge
+grew-large : (small test : Bool) {old : List ℕ} {at : ℕ} {src : List ℕ} {n : ℕ} {r : std.Result ℕ Unfit} {new : List ℕ} → Grew small test old at src n r new → r ≡ (Err unfit.TooLarge)
     → (small ≡ false) × (new ≡ old)
 grew-large true true q i = let z = q.says in let y : ◌≡◌ {A = ℕ} 0 1 = cc in absurd (omega arith)
 grew-large true false q i = let z = q.says in let y : ◌≡◌ {A = ℕ} 0 1 = cc in absurd (omega arith)
 grew-large false test q i = (refl, q.is)
 
-grew-not : (small test : Bool) {old : List ℕ} {at : ℕ} {src : List ℕ} {n : ℕ} {r : Grown} {new : List ℕ} → Grew small test old at src n r new → r ≡ grown.Not
+grew-not : (small test : Bool) {old : List ℕ} {at : ℕ} {src : List ℕ} {n : ℕ} {r : std.Result ℕ Unfit} {new : List ℕ} → Grew small test old at src n r new → r ≡ (Err unfit.Outside)
     → (small ≡ true) × (test ≡ false) × (new ≡ old)
 grew-not true true q i = let z = q.says in let y : ◌≡◌ {A = ℕ} 0 1 = cc in absurd (omega arith)
 grew-not true false q i = (refl, refl, q.is)
@@ -170,21 +179,21 @@ product-comm : (n k : ℕ) → n * 6 * k ≡ 6 * (k * n)
 product-comm n k = let a : n * 6 * k ≡ n * (6 * k) = mul_assoc n 6 k in let b : n * (6 * k) ≡ 6 * k * n = mul_comm n (6 * k) in a ∙ b ∙ mul_assoc 6 k n
 
 module _ {p end : ℕ} {old : List ℕ} (whole : WholeAt old p end) {count size : ℕ} {mid : List ℕ} (y : Flattens p end old count size mid)
-    (k : ℕ) {g : Grown} {new : List ℕ} (z : Repeated mid p size k g new) where
-  few : {e : ℕ} → g ≡ grown.Ends e → suc (k * size) ≤ most_nodes
+    (k : ℕ) {g : std.Result ℕ Unfit} {new : List ℕ} (z : Repeated mid p size k g new) where
+  few : {e : ℕ} → g ≡ Ok e → suc (k * size) ≤ most_nodes
   few i = leb-true (suc (k * size)) most_nodes (grew-ends (leb (suc (k * size)) most_nodes) _ z i).0
 
   counted : count ≤ size
   counted = let x = y.gives whole.tree whole.good whole.stands in omega (arith, x.counts, x.sizes, many-least (flat whole.tree))
 
-  pub spread-count : {e : ℕ} → g ≡ grown.Ends e → Fits w32 (count * k)
+  pub spread-count : {e : ℕ} → g ≡ Ok e → Fits w32 (count * k)
   spread-count i =
       let b : count * k ≤ size * k = mul-le-mul_right k counted in
       record { fits = omega (arith, few i, b, mul_comm size k) }
 
 module _ (at : ℕ) {end : ℕ} {old : List ℕ} (whole : WholeAt old (at + 6) end) {count size : ℕ} {mid : List ℕ} (y : Flattens (at + 6) end old count size mid)
-    {k : ℕ} {g : Grown} {new : List ℕ} (z : Repeated mid (at + 6) size k g new) (h : at + tree_words ≤ length old) (l : length mid ≡ length old) where
-  pub spread-ends : {e : ℕ} → g ≡ grown.Ends e → length new ≡ length mid → {w : Extent} {fin : List ℕ} → WroteNode new at (head_words 13 (count * k)) w fin
+    {k : ℕ} {g : std.Result ℕ Unfit} {new : List ℕ} (z : Repeated mid (at + 6) size k g new) (h : at + tree_words ≤ length old) (l : length mid ≡ length old) where
+  pub spread-ends : {e : ℕ} → g ≡ Ok e → length new ≡ length mid → {w : Option ℕ} {fin : List ℕ} → WroteNode new at (head_words 13 (count * k)) w fin
       → Spreads k at end old (Ends e) fin
   spread-ends {e} i m {w} {fin} u =
       let p : fin ≡ paste new at (head_words 13 (count * k)) 6 = rw (le-leb (at + 6) (length new) (omega arith)) at u.is in
@@ -205,8 +214,9 @@ module _ (at : ℕ) {end : ℕ} {old : List ℕ} (whole : WholeAt old (at + 6) e
             ∙ kept-before at (at + 6) mid old (omega arith) y.kept;
       }
 
-  pub spread-large : g ≡ grown.TooLarge → Spreads k at end old TooLarge new
-  spread-large i =
+  pub spread-large : {u : Unfit} → g ≡ Err u → u ≡ unfit.TooLarge → Spreads k at end old TooLarge new
+  spread-large a b =
+      let i : g ≡ Err unfit.TooLarge = cc in
       let q = grew-large (leb (suc (k * size)) most_nodes) _ z i in
       record {
         gives = λ t good st M.
@@ -217,8 +227,9 @@ module _ (at : ℕ) {end : ℕ} {old : List ℕ} (whole : WholeAt old (at + 6) e
       }
 
   -- there is room
-  pub spread-not : g ≡ grown.Not → Spreads k at end old None new
-  spread-not i =
+  pub spread-not : {u : Unfit} → g ≡ Err u → u ≡ unfit.Outside → Spreads k at end old None new
+  spread-not a b =
+      let i : g ≡ Err unfit.Outside = cc in
       let q = grew-not (leb (suc (k * size)) most_nodes) _ z i in
       let f = leb-true (suc (k * size)) most_nodes q.0 in
       let r : at + 6 + size * 6 * k ≤ length mid = omega (arith, product-comm size k) in
@@ -262,4 +273,4 @@ spread-all {at} {end} {old} {r} {new} {times} k e x =
       kept = x.kept;
     }
 
-pub ruleset laws = (rules, whole-runs, whole-head, whole-fits, whole-nodes, whole_words_lem, values_one, values-parts, spread-count, spread-ends, spread-large, spread-not, spread-all)
+pub ruleset laws = (rules, whole-runs, whole-head, whole-fits, whole-nodes, whole_words_lem, values_none, values_one, values-parts, spread-count, spread-ends, spread-large, spread-not, spread-all)

@@ -25,9 +25,7 @@ use Rattle.laws.specs.Whole.{flatten-length, nodes-some}
 use Rattle.tree.proofs.Standing.{named-there}
 use Rattle.tree.proofs.Fields.{stands-long}
 use Rattle.places.specs.Inside.{PlaceIn, field_found}
-use Rattle.places.specs.Found.{place_in}
-use Rattle.places.specs.declared.field.Found.{Found}
-use Rattle.places.specs.declared.field.Found.TheVariants as found
+use Rattle.definition.specs.Ask.{result_of}
 use Rattle.build.specs.declared.built.Built.{Built}
 use Rattle.build.specs.declared.built.Built.TheVariants.{Ends, None, TooLarge}
 use Rattle.build.specs.Built.{Builds, Ready}
@@ -37,19 +35,20 @@ use Rattle.build.proofs.defaults.Laws.{peek-named, peek-over, one-gives}
 use Rattle.initial.specs.Stated.{element_start, variable_start, part_start, is_part, part_ask, BuildsPart, PartIn}
 use Rattle.initial.specs.Rooms.{init_levels, variable_levels, element_levels, part_levels, parts_levels}
 use Rattle.initial.proofs.Alike.{same, no_value_lem, at-found, at_none}
+use Rattle.std.specs.Prelude.{None, Option, Some}
 
 -- ---- `element_start`
-module _ (f : List ℕ) (place : Place) (e : ℕ) {name : ℕ} (q : name ≡ word f elements e 0) (w : Found) (k : place_in w ≡ field_place f place name) where
-  found-is : place_in w ≡ field_place f place (word f elements e 0)
+module _ (f : List ℕ) (place : Place) (e : ℕ) {name : ℕ} (q : name ≡ word f elements e 0) (w : Option Place) (k : result_of w ≡ field_place f place name) where
+  found-is : result_of w ≡ field_place f place (word f elements e 0)
   found-is = k ∙ ap (field_place f place) q
 
-  pub element-none : {known store : List ℕ} {at : ℕ} {old : List ℕ} → w ≡ found.None → Builds f known store flatten (element_start f place e) at old None old
+  pub element-none : {known store : List ℕ} {at : ℕ} {old : List ℕ} → w ≡ None → Builds f known store flatten (element_start f place e) at old None old
   unfolding element_start
-  element-none z = no_value_lem (element_start f place e) (at_none (initializer f (word f elements e 1)) (field_place f place (word f elements e 0)) (sym found-is ∙ ap place_in z))
+  element-none z = no_value_lem (element_start f place e) (at_none (initializer f (word f elements e 1)) (field_place f place (word f elements e 0)) (sym found-is ∙ ap result_of z))
 
-  module _ {p : Place} (z : w ≡ found.Place p) where
+  module _ {p : Place} (z : w ≡ Some p) where
     found_ok : field_place f place (word f elements e 0) ≡ ok p
-    found_ok = sym found-is ∙ ap place_in z
+    found_ok = sym found-is ∙ ap result_of z
 
     pub element_place_lem : Accepted f → PlaceIn f place → PlaceIn f p
     element_place_lem a i = field_found f a place name i k z
@@ -160,7 +159,7 @@ module _ (f : List ℕ) (place : Place) (section k : ℕ) {name : ℕ} (w : name
               }
 
 -- where a default ends, a tree stands
-module _ {f source known store : List ℕ} (y : Ready f source known store)
+module _ {f known store : List ℕ} (y : Ready f known store)
     {m : Ask Outcome} {to : ℕ} {old : List ℕ} {r : Built} {new : List ℕ} (x : Builds f known store flatten m to old r new) {end : ℕ} (q : r ≡ Ends end) where
   there : EndsAt flatten (peek y.memo m) to end new
   there = built-ends x y.memory q

@@ -20,11 +20,10 @@ use Rattle.definition.specs.Resolve.{Memo}
 use Rattle.definition.specs.Peek.{peek}
 use Rattle.laws.specs.Steps.{peek-nothing}
 use Rattle.laws.specs.Values.{Small}
-use Rattle.laws.specs.Whole.{flatten-length, nodes-some}
+use Rattle.laws.specs.Whole.{Good, flatten-length, nodes-some}
 use Rattle.laws.specs.Gathers.{gathered-parts}
 use Rattle.tree.specs.Words.{Stand, WroteNode}
 use Rattle.tree.specs.Node.{head_words}
-use Rattle.tree.specs.declared.extent.Extent.{Extent}
 use Rattle.tree.specs.declared.part.Value.{Value}
 use Rattle.tree.specs.declared.part.Value.TheVariants as value
 use Rattle.tree.specs.Part.{value_at, value_is}
@@ -40,6 +39,7 @@ use Rattle.entries.specs.Entries as entering
 use Rattle.gather.proofs.Single.{node_kept}
 use Rattle.initial.specs.Stated.{ArrayIn, MembersIn, SmallAt, Applies}
 use Rattle.initial.specs.Rooms.{entry_levels}
+use Rattle.std.specs.Prelude.{None, Option, Some}
 
 -- ---- what `entries` asks of its arguments
 pub array-inside : {f : List ℕ} {first many : ℕ} → ArrayIn f first many → first + many ≤ count f entries
@@ -68,7 +68,10 @@ value-structure : (t : Tree) → (head t).kind ≡ 14 → value_is t ≡ value.S
 unfolding value_is head parts
 value-structure (node h ts) e = rw e
 
-module _ {f source known store : List ℕ} (y : Ready f source known store) (place : Place) (first many : ℕ) {old : List ℕ} (at : ℕ)
+no-structure : (t : Tree) {w : Value} → w ≡ value_is t → ((count : ℕ) → w ≡ value.Structure count → ⊥) → (head t).kind ≡ 14 → ⊥
+no-structure t k o c = o (many (parts t)) (k ∙ value-structure t c)
+
+module _ {f known store : List ℕ} (y : Ready f known store) (place : Place) (first many : ℕ) {old : List ℕ} (at : ℕ)
     (l : at + entry_levels f first many place * 12288 ≤ length old) where
   -- ---- `array_of`
   pub array-given : {r : Built} {new : List ℕ} → BuildsArray f known store place first many old at r new → Builds f known store flatten (array_of f place first many) at old r new
@@ -80,23 +83,37 @@ module _ {f source known store : List ℕ} (y : Ready f source known store) (pla
       }
 
   -- ---- `apply_members`
-  module _ {end : ℕ} (z : SmallAt old at end) {v : Value} (q : v ≡ value_at old at) where
-    pub members-other : OneOf (0 ∷ 1 ∷ 3 ∷ []) (tag_of the_type v) → Applies f known store place first many at end old built.None old
-    members-other o =
+  module _ {end : ℕ} (z : SmallAt old at end) {v : Option Value} (q : v ≡ value_at old at) where
+    no-members : ((t : Tree) → Stand old at (flatten t) end → Good t → (head t).kind ≡ 14 → ⊥) → Applies f known store place first many at end old built.None old
+    no-members h =
         record {
           gives = λ t s x M k.
-              let n : (head t).kind ≡ 14 → ⊥ = λ c.
-              let e = q ∙ value_there old at t end s.good x ∙ value-structure t c in
-              miss (0 ∷ 1 ∷ 3 ∷ []) 2 tt (rw e at o) in
+              let n : (head t).kind ≡ 14 → ⊥ = h t x s.good in
               rw (ne_eqb (head t).kind 14 n, peek-nothing M) (record { says = refl; stands = tt });
           kept = refl;
         }
 
-    module _ {n : ℕ} (i : v ≡ value.Structure n) {x : Extent} {mid : List ℕ} (u : WroteNode old at (head_words 14 n) x mid) (g : length mid ≡ length old) where
+    pub members-none : v ≡ None → Applies f known store place first many at end old built.None old
+    members-none i =
+        no-members (λ t x g c.
+        let y : None ≡ Some (value_is t) = sym i ∙ q ∙ value_there old at t end g x in
+        let w : ◌≡◌ {A = ℕ} 0 1 = cc in
+        omega arith)
+
+    pub members-other : {w : Value} → v ≡ Some w → ((count : ℕ) → w ≡ value.Structure count → ⊥) → Applies f known store place first many at end old built.None old
+    members-other {w} i o =
+        no-members (λ t x g c.
+        let y : Some w ≡ Some (value_is t) = sym i ∙ q ∙ value_there old at t end g x in
+        let k : w ≡ value_is t = cc in
+        no-structure t k o c)
+
+    module _ {val : Value} (j : v ≡ Some val) {n : ℕ} (i : val ≡ value.Structure n) {x : Option ℕ} {mid : List ℕ} (u : WroteNode old at (head_words 14 n) x mid) (g : length mid ≡ length old) where
       headed-so : (t : Tree) → Small t → Stand old at (flatten t) end → Structure mid at end (rooms f (run_depth f first many)) (parts t)
       unfolding structure_tree
       headed-so t s d =
-          let c = kind-structure t n s.good (sym (value_there old at t end s.good d) ∙ sym q ∙ i) in
+          let e : Some (value_is t) ≡ Some val = sym (value_there old at t end s.good d) ∙ sym q ∙ j in
+          let k : value_is t ≡ val = cc in
+          let c = kind-structure t n s.good (k ∙ i) in
           let b : at + 6 ≤ length old = omega (arith, d.long, d.fits, flatten-length t, nodes-some t) in
           let p = rw (le-leb (at + 6) (length old) b) at u.is in
           record {
@@ -112,9 +129,11 @@ module _ {f source known store : List ℕ} (y : Ready f source known store) (pla
       members-given {r} {new} w =
           record {
             gives = λ t s d M k.
-                let c = kind-structure t n s.good (sym (value_there old at t end s.good d) ∙ sym q ∙ i) in
+                let e : Some (value_is t) ≡ Some val = sym (value_there old at t end s.good d) ∙ sym q ∙ j in
+                let l : value_is t ≡ val = cc in
+                let c = kind-structure t n s.good (l ∙ i) in
                 rw (eq-eqb (head t).kind 14 c.0) (gives_of M (members f (inits_at f first many) place (parts t)) at r new (w.says M k (parts t) (headed-so t s d)).builds);
             kept = (w.says y.memo y.memory (parts z.tree) (headed-so z.tree z.small z.stands)).kept ∙ node_kept u;
           }
 
-pub ruleset laws = (rules, opened, array-inside, members-inside, array-there, members-there, array-given, members-other, members-given)
+pub ruleset laws = (rules, opened, array-inside, members-inside, array-there, members-there, array-given, members-none, members-other, members-given)

@@ -140,7 +140,7 @@ name-small : {f known store : List ℕ} (name : ℕ) → Link (IsType f) name �
 name-small {f} {known} {store} name l M m t e =
     peek-to (IsType f) (λ d o. OnOk Small o) (OnOk Small) M (λ d o p q. remembers-small m.remembers d o (omega (arith, m.all)) q) (name_default name) (gives-name wholes (IsType f) name l) (ok t) e
 
-module _ {f source known store : List ℕ} (y : Ready f source known store) where
+module _ {f known store : List ℕ} (y : Ready f known store) where
   module _ {place : Place} (i : PlaceIn f place) {at : ℕ} {old : List ℕ} {r : Built} {mid : List ℕ} (x : Builds f known store flatten (default_of f place) at old r mid) {end : ℕ} (q : r ≡ Ends end) where
     pub default-there : SmallAt mid at end
     default-there = small-there f known store (default_of f place) x (λ M m t e. default-small y.accepted m i t e) y.memo y.memory q
@@ -157,7 +157,7 @@ module _ {f source known store : List ℕ} (y : Ready f source known store) wher
         → Builds f known store flatten (members_over f place first many (name_default name)) at old r' new
     name-over {place} {first} {many} z = over-all f known store place first many (name_default name) x (λ M m t e. name-small name l M m t e) q z
 
-pub ready-starts : {f source known store : List ℕ} → Ready f source known store → Accepted f
+pub ready-starts : {f known store : List ℕ} → Ready f known store → Accepted f
 ready-starts y = y.accepted
 
 pub ruleset laws =

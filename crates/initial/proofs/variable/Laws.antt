@@ -15,15 +15,14 @@ use Rattle.definition.specs.Defaults as Defaults
 use Rattle.definition.specs.Starting.{initializer, declaration}
 use Rattle.laws.specs.Accepted.{Accepted, variable-points}
 use Rattle.places.specs.Inside.{PlaceIn, variable-found}
-use Rattle.places.specs.Found.{place_in}
-use Rattle.places.specs.declared.field.Found.{Found}
-use Rattle.places.specs.declared.field.Found.TheVariants as found
+use Rattle.definition.specs.Ask.{result_of}
 use Rattle.build.specs.declared.built.Built.{Built}
 use Rattle.build.specs.declared.built.Built.TheVariants.{None}
 use Rattle.build.specs.Built.{Builds}
 use Rattle.initial.specs.Stated.{variable_start}
 use Rattle.initial.specs.Rooms.{init_levels, variable_levels}
 use Rattle.initial.proofs.Alike.{same, no_value_lem, at-found, at_none}
+use Rattle.std.specs.Prelude.{None, Option, Some}
 
 -- ---- `is_outside`
 module _ (f : List ℕ) (v : ℕ) {kind : ℕ} (i : kind ≡ word f variables v 1) where
@@ -39,23 +38,23 @@ module _ (f : List ℕ) (v : ℕ) {b : Bool} (o : b ≡ (eqb (word f variables v
   unfolding Defaults.declaration
   declared-outside e = no_value_lem (declaration f v) (rw (← o, e))
 
-  module _ (e : b ≡ false) {i : ℕ} (q : i ≡ word f variables v 3) (w : Found) (k : place_in w ≡ variable_place f v i) where
-    inside : declaration f v ≡ done (place_in w) >>= initializer f i
+  module _ (e : b ≡ false) {i : ℕ} (q : i ≡ word f variables v 3) (w : Option Place) (k : result_of w ≡ variable_place f v i) where
+    inside : declaration f v ≡ done (result_of w) >>= initializer f i
     unfolding Defaults.declaration
     inside = rw (← o, e, ← q, ← k)
 
-    pub declared-none : {known store : List ℕ} {at : ℕ} {old : List ℕ} → w ≡ found.None → Builds f known store flatten (declaration f v) at old None old
-    declared-none z = no_value_lem (declaration f v) (inside ∙ at_none (initializer f i) (place_in w) (ap place_in z))
+    pub declared-none : {known store : List ℕ} {at : ℕ} {old : List ℕ} → w ≡ None → Builds f known store flatten (declaration f v) at old None old
+    declared-none z = no_value_lem (declaration f v) (inside ∙ at_none (initializer f i) (result_of w) (ap result_of z))
 
-    pub declared-at : {known store : List ℕ} {at : ℕ} {old : List ℕ} {r : Built} {new : List ℕ} {p : Place} → w ≡ found.Place p
+    pub declared-at : {known store : List ℕ} {at : ℕ} {old : List ℕ} {r : Built} {new : List ℕ} {p : Place} → w ≡ Some p
         → Builds f known store flatten (initializer f i p) at old r new → Builds f known store flatten (declaration f v) at old r new
-    declared-at {p = p} z h = same (initializer f i p) (declaration f v) (inside ∙ at-found (initializer f i) (place_in w) (ap place_in z)) h
+    declared-at {p = p} z h = same (initializer f i p) (declaration f v) (inside ∙ at-found (initializer f i) (result_of w) (ap result_of z)) h
 
 module _ (f : List ℕ) (v : ℕ) {i : ℕ} (q : i ≡ word f variables v 3) where
   pub variable-init : Accepted f → v < count f variables → i < count f initializers
   variable-init a l = rw q (variable-points f a v l).1
 
-  module _ (w : Found) (k : place_in w ≡ variable_place f v i) {p : Place} (e : w ≡ found.Place p) where
+  module _ (w : Option Place) (k : result_of w ≡ variable_place f v i) {p : Place} (e : w ≡ Some p) where
     pub variable-place : Accepted f → v < count f variables → PlaceIn f p
     variable-place a l = variable-found f a v i (variable-points f a v l).0 (variable-init a l) k e
 

@@ -20,7 +20,8 @@ use Rattle.laws.specs.Accepted.{Accepted, count_most, few-types, run_in_lem, typ
 use Rattle.laws.specs.Nearby.{near-block}
 use Rattle.laws.specs.Used.{IsType, leads-inside}
 use Rattle.records.proofs.Links.{a-link}
-use Rattle.places.specs.declared.block.Block.TheVariants as block
+use Rattle.std.specs.Prelude.{Option, Some, None}
+use Rattle.places.specs.declared.block.Run.{Run}
 use Rattle.places.specs.Found.{block_run}
 use Rattle.places.proofs.Steps.{Comes, goes_on, stops, ends}
 
@@ -80,19 +81,19 @@ module _ (f : List ℕ) (t : ℕ) {b : ℕ} (is : b ≡ recorded_block f t) wher
         (λ r. let s = both (eqb first inline) (eqb many 0) r in omega (arith, eqb-true first inline s.0, eqb-true many 0 s.1))
 
 -- ---- `block_run`
-pub no-type : (f : List ℕ) (place : Place) → place.id ≡ 0 → block.None ≡ block_run f place
+pub no-type : (f : List ℕ) (place : Place) → place.id ≡ 0 → None ≡ block_run f place
 unfolding block_run
 no-type f place e = rw e
 
 module _ (f : List ℕ) (place : Place) (n : place.id ≡ 0 → ⊥) {b : ℕ} (is : b ≡ recorded_block f (place.id - 1)) where
-  typed : block_run f place ≡ on_link b block.None (λ b. block.Fields (word f types b 9) (word f types b 10))
+  typed : block_run f place ≡ on_link b None (λ b. Some (record { first = word f types b 9; count = word f types b 10 }))
   unfolding block_run
   typed = let z : place.id ≡ suc (place.id - 1) = omega (arith, n) in rw (z, ← is)
 
-  pub no_block : b ≡ 0 → block.None ≡ block_run f place
+  pub no_block : b ≡ 0 → None ≡ block_run f place
   no_block e = rw (typed, e)
 
-  pub run-of-block : (b ≡ 0 → ⊥) → {first many : ℕ} → first ≡ word f types (b - 1) 9 → many ≡ word f types (b - 1) 10 → block.Fields first many ≡ block_run f place
+  pub run-of-block : (b ≡ 0 → ⊥) → {first many : ℕ} → first ≡ word f types (b - 1) 9 → many ≡ word f types (b - 1) 10 → Some (record { first = first; count = many }) ≡ block_run f place
   run-of-block m p q = let z : b ≡ suc (b - 1) = omega (arith, m) in rw (typed, z, p, q)
 
 pub ruleset laws =

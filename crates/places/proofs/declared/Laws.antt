@@ -19,7 +19,6 @@ use Rattle.laws.specs.Accepted.{Accepted, count_most, few-types, element-points}
 use Rattle.laws.specs.Pointed.{DeclarationPointed, declaration-pointed, named-of}
 use Rattle.laws.specs.Nearby.{structure-at, alias-target}
 use Rattle.laws.specs.Used.{IsType, leads-inside}
-use Rattle.records.specs.Starts.{StartsOf, DeclaredIn}
 use Rattle.records.proofs.Links.{a-link}
 use Rattle.places.proofs.Steps.{Comes, goes_on, stops, ends}
 
@@ -60,47 +59,6 @@ module _ (f : List ℕ) (t : ℕ) {base : ℕ} (is : base ≡ word f types t 1) 
       pub simple-start : (start ≡ 0 → ⊥) → {r : ℕ} → r ≡ simple_target f (start - 1) → r ≡ alias_target f t
       unfolding alias_target alias_base declaration_kind
       simple-start n h = let q : start ≡ suc (start - 1) = omega (arith, n) in rw (← is, z, ← k, eq-eqb kind 1 o, ← e, q) h
-
--- ---- `declared_types`
-module _ (f : List ℕ) (t : ℕ) {kind : ℕ} (is : kind ≡ word f types t 4) where
-  pub none-declared : kind < 1 → ◌≡◌ {A = ℕ} 0 (pick (leb 1 (declaration_kind f t) && leb (declaration_kind f t) 8) 1 0)
-  unfolding declaration_kind
-  none-declared h = rw (← is, lt-leb 1 kind h)
-
-  module _ (l : 1 ≤ kind) where
-    pub block-declared : 8 < kind → ◌≡◌ {A = ℕ} 0 (pick (leb 1 (declaration_kind f t) && leb (declaration_kind f t) 8) 1 0)
-    unfolding declaration_kind
-    block-declared h = rw (← is, le-leb 1 kind l, lt-leb kind 8 h)
-
-    pub one-declared : kind ≤ 8 → ◌≡◌ {A = ℕ} 1 (pick (leb 1 (declaration_kind f t) && leb (declaration_kind f t) 8) 1 0)
-    unfolding declaration_kind
-    one-declared h = rw (← is, le-leb 1 kind l, le-leb kind 8 h)
-
-one : (b : Bool) → pick b 1 0 ≤ 1
-one true = omega arith
-one false = omega arith
-
--- so many of the types below t are declared
-pub record Counted (f : List ℕ) (t n : ℕ) : Type 0 where
-  pub so_far : n ≡ declared_types f t
-  pub most : n ≤ t
-
-pub counts : (f : List ℕ) → Counted f 0 0
-unfolding declared_types
-counts f = record { so_far = refl; most = omega arith }
-
-pub counts-next : {f : List ℕ} {t n : ℕ} → Counted f t n → {r : ℕ} → r ≡ pick (leb 1 (declaration_kind f t) && leb (declaration_kind f t) 8) 1 0 → Counted f (t + 1) (n + r)
-unfolding declared_types
-counts-next {f} {t} {n} i {r} e = record { so_far = rw (add-one, e, i.so_far); most = omega (arith, i.most, small) }
-  where
-    small : r ≤ 1
-    small = rw e (one (leb 1 (declaration_kind f t) && leb (declaration_kind f t) 8))
-
-pub one_more : {f : List ℕ} {t n m : ℕ} → Counted f t n → t < m → m < 2 ^ 32 → {r : ℕ} → r ≡ pick (leb 1 (declaration_kind f t) && leb (declaration_kind f t) 8) 1 0 → n + r < 2 ^ 64
-one_more i h l e = omega (arith, (counts-next i e).most)
-
-pub counted-all : {f : List ℕ} {t n m : ℕ} → Counted f t n → t ≤ m → m ≤ t → m ≡ count f types → n ≡ declared_types f (count f types)
-counted-all {f} {t} {n} {m} i h l e = let q : t ≡ count f types = omega arith in rw q at i.so_far
 
 -- ---- `declared_type`, `declared_element`
 module _ (f : List ℕ) (i : ℕ) {w : ℕ} (is : w ≡ word f initializers i 1) where
@@ -147,32 +105,24 @@ module _ (f : List ℕ) (t : ℕ) {first many : ℕ} (p : first ≡ word f types
           (named-of f elements name (λ e. e < count f elements) first many (λ j m. omega arith)) in
           omega (arith, h, element-points f a (e - 1) g, count_most f a initializers (lit< tt))
 
--- ---- `source_of`
-pub starts-kept : {f starts : List ℕ} → StartsOf f starts → (n : ℕ) → StartsOf f (set starts 15 n)
-starts-kept {f} {starts} i n =
-    record {
-      long = length-set starts 15 n ∙ i.long;
-      start = λ s l. get_or-set_other starts 15 s n 0 (λ e. omega arith) ∙ i.start s l;
-      near = λ s l. rw (get_or-set_other starts 15 s n 0 (λ e. omega arith)) (i.near s l);
-    }
-
-pub declared-put : {f starts : List ℕ} → StartsOf f starts → {n : ℕ} → n ≡ declared_types f (count f types) → DeclaredIn f (set starts 15 n)
-declared-put {f} {starts} i {n} e = record { counted = get_or-set_same starts 15 n 0 (omega (arith, i.long)) ∙ e }
-
 -- ---- `field_declaration`
+one : (b : Bool) → pick b 1 0 ≤ 1
+one true = omega arith
+one false = omega arith
+
 declared-most : (f : List ℕ) (t : ℕ) → declared_types f t ≤ t
 unfolding declared_types
 declared-most f zero = omega arith
 declared-most f (suc t) = omega (arith, declared-most f t, one (leb 1 (declaration_kind f t) && leb (declaration_kind f t) 8))
 
 -- a few steps more fit too
-pub declared-fits : {f source : List ℕ} → Accepted f → DeclaredIn f source → (n : ℕ) → leb n 16 ≡ true → get_or source 15 0 + n < 2 ^ 64
-declared-fits {f} {source} a i n h = omega (arith, i.counted, few-types f a, declared-most f (count f types), leb-true n 16 h)
+pub declared-fits : {f : List ℕ} {d : ℕ} → Accepted f → d ≡ declared_types f (count f types) → (n : ℕ) → leb n 16 ≡ true → d + n < 2 ^ 64
+declared-fits {f} a e n h = omega (arith, e, few-types f a, declared-most f (count f types), leb-true n 16 h)
 
 module _ (f : List ℕ) (name t : ℕ) where
-  pub declared-starts : {source : List ℕ} → DeclaredIn f source → Comes (field_declaration_up_to f name) (get_or source 15 0 + 1) t (field_declaration f name t)
+  pub declared-starts : {d : ℕ} → d ≡ declared_types f (count f types) → Comes (field_declaration_up_to f name) (d + 1) t (field_declaration f name t)
   unfolding field_declaration
-  declared-starts i = record { same = rw (i.counted, add-one) }
+  declared-starts e = record { same = rw (e, add-one) }
 
   pub declared-ends : 0 ≡ field_declaration_up_to f name 0 t
   unfolding field_declaration_up_to
@@ -204,4 +154,4 @@ target-inside {f} a t h {g} e n =
     link-to (IsType f) (alias_target f t) (g - 1) (sym e ∙ z) (alias-target f (IsType f) (IsType f) (leads-inside f a) t h)
 
 pub ruleset laws =
-    (rules, inline-type, named-type, inline-element, named-element, elements-fit, no-element, an-element, element-fits, starts-kept, declared-put, declared-fits, declared-starts, declared-ends, declared-here, no_target, target-next, kind-is, target-inside, target_below, target-above, target-named, alias-base, no-simple, no_start, simple-start, none-declared, block-declared, one-declared, counts, counts-next, one_more, counted-all, goes_on, stops, ends)
+    (rules, inline-type, named-type, inline-element, named-element, elements-fit, no-element, an-element, element-fits, declared-fits, declared-starts, declared-ends, declared-here, no_target, target-next, kind-is, target-inside, target_below, target-above, target-named, alias-base, no-simple, no_start, simple-start, goes_on, stops, ends)

@@ -57,13 +57,6 @@ unfolding constant_value
 constant-is f s n e h = rw (← e) (ap as_tree h)
 
 -- ---- `member_at`, `member_names`
-module _ {f starts : List ℕ} (i : StartsOf f starts) where
-  pub members-start : get_or starts 2 0 ≤ 2 ^ 40
-  members-start = start-most i 2 (omega arith) (omega arith)
-
-  pub member_is : (n : ℕ) → get_or starts 2 0 + 1 + n ≡ count_at f members + 1 + n
-  member_is n = rw (i.start 2 (omega arith))
-
 starts-rise : (f : List ℕ) (s n : ℕ) → count_at f s ≤ count_at f (n + s)
 unfolding count_at behind
 starts-rise f s zero = let e : 0 + s ≡ s = omega arith in rw e (omega arith)
@@ -78,18 +71,19 @@ unfolding word record_words words_of_records
 member-word f n at e = ap (λ k. get_or f k 0) (let z : at ≡ count_at f members + 1 + n * 1 + 0 = omega arith in z)
 
 module _ {f : List ℕ} (a : Accepted f) (first many : ℕ) (h : first + many ≤ count f members) {from : ℕ} (e : from ≡ count_at f members + 1 + first) where
-  pub members-end : from + many ≤ length f
+  pub members-end : {words : List ℕ} → words ≡ f → from + many ≤ length words
   unfolding ends_right
-  members-end =
-      let l : count_at f 14 ≡ length f = eqb-true (count_at f 14) (length f) a.ends in
+  members-end w =
+      rw w
+      (let l : count_at f 14 ≡ length f = eqb-true (count_at f 14) (length f) a.ends in
       let r : count_at f 3 ≤ count_at f 14 = starts-rise f 3 11 in
-      omega (arith, members-next f)
+      omega (arith, members-next f))
 
-  pub members_run : {to : ℕ} → to ≡ from + many → {names : List ℕ} → names ≡ take (to - from) (drop from f) → Run f first many names
-  members_run {to} t {names} n =
+  pub members_run : {words : List ℕ} → words ≡ f → {to : ℕ} → to ≡ from + many → {names : List ℕ} → names ≡ take (to - from) (drop from words) → Run f first many names
+  members_run w {to} t {names} n =
       let q : to - from ≡ many = omega arith in
-      let g : names ≡ take many (drop from f) = rw q at n in
-      let l : many ≤ length (drop from f) = simp length-drop (omega (arith, members-end)) in
+      let g : names ≡ take many (drop from f) = rw (q, w) at n in
+      let l : many ≤ length (drop from f) = simp length-drop (omega (arith, members-end refl)) in
       rw g (record { long = length-take-le many (drop from f) l; names_are = λ k m. get_or-take many (drop from f) k 0 m ∙ get_or-drop from f k 0 ∙ member-word f (first + k) (from + k) (omega arith) })
 
 -- ---- `enumerated_value`
@@ -119,4 +113,4 @@ implicit-in f s {low} b {member} d w h =
     (record { of_subrange = λ base l g e. (b.of_subrange base l g e).0; of_enumeration = λ first many default underlying e l. d.of_enumeration first many default underlying e })
 
 pub ruleset laws =
-    (rules, subrange-bounds, no-bounds, converted-in, constant-counts, constant-bits, constant-is, members-start, member_is, members-end, members_run, members-inside, enumerated-by, no-enumeration, default-member, no_default, implicit-in)
+    (rules, subrange-bounds, no-bounds, converted-in, constant-counts, constant-bits, constant-is, members-end, members_run, members-inside, enumerated-by, no-enumeration, default-member, no_default, implicit-in)

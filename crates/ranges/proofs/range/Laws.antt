@@ -16,8 +16,7 @@ use Rattle.definition.specs.Ask.{Result, ok, none, large}
 use Rattle.definition.specs.Accept.{is_bits}
 use Rattle.definition.specs.Iec.{number, least, greatest, between, in_range}
 use Rattle.definition.specs.Scalar.{size_of, value_of}
-use Rattle.ranges.specs.declared.table.Range.{Range}
-use Rattle.ranges.specs.declared.table.Range.TheVariants as range
+use Rattle.std.specs.Prelude.{Option, Some, None}
 use Rattle.ranges.specs.Table.{Bounds, bounds, bounds_of, listed, depth_of}
 
 -- ---- `depth`
@@ -116,27 +115,27 @@ module _ (signed : Bool) (bits : ℕ) (b : is_bits bits ≡ true) where
   unfolding listed
   is-listed = rw b
 
-  pub fits-unlisted : {r : Range} → bounds_of r ≡ listed signed bits → r ≡ range.None → (c : Constant) → false ≡ in_range signed bits (value_of c)
+  pub fits-unlisted : {r : Option (ℤ × ℕ)} → bounds_of r ≡ listed signed bits → r ≡ None → (c : Constant) → false ≡ in_range signed bits (value_of c)
   fits-unlisted is e c =
       let n : ◌≡◌ {A = Result Bounds} none (bounds (least signed bits) (greatest signed bits)) = (rw e at is) ∙ is-listed in
       let z : ◌≡◌ {A = ℕ} 0 1 = cc in
       absurd (omega arith)
 
-  module _ {r : Range} (is : bounds_of r ≡ listed signed bits) {l : ℤ} {g : ℕ} (e : r ≡ range.Between l g) where
-    are-bounds : bounds l (pos g) ≡ bounds (least signed bits) (greatest signed bits)
-    are-bounds = let h : bounds l (pos g) ≡ listed signed bits = rw e at is in h ∙ is-listed
+  module _ {r : Option (ℤ × ℕ)} (is : bounds_of r ≡ listed signed bits) {x : ℤ × ℕ} (e : r ≡ Some x) where
+    are-bounds : bounds x.0 (pos x.1) ≡ bounds (least signed bits) (greatest signed bits)
+    are-bounds = let h : bounds x.0 (pos x.1) ≡ listed signed bits = rw e at is in h ∙ is-listed
 
     module _ (c : Constant) {s : Bool} (negative_is : s ≡ eqb c.sign 1) {n : ℕ} (is-size : n ≡ size_of c) where
-      pub fits_below : SFits w64 l → s ≡ true → {d : ℕ} → d ≡ depth_of (stored l) → leb n d ≡ in_range signed bits (value_of c)
+      pub fits_below : SFits w64 x.0 → s ≡ true → {d : ℕ} → d ≡ depth_of (stored x.0) → leb n d ≡ in_range signed bits (value_of c)
       unfolding in_range between value_of number
       fits_below f q h =
-          let is-least : l ≡ least signed bits = ap lowest_in are-bounds in
+          let is-least : x.0 ≡ least signed bits = ap lowest_in are-bounds in
           rw (← negative_is, q, ← is-size, greatest-above signed bits n, and-true, h, is-stored f, is-least) (least-depth signed bits n)
 
-      pub fits-above : s ≡ false → leb n g ≡ in_range signed bits (value_of c)
+      pub fits-above : s ≡ false → leb n x.1 ≡ in_range signed bits (value_of c)
       unfolding in_range between value_of number
       fits-above q =
-          let is-greatest : pos g ≡ greatest signed bits = ap highest_in are-bounds in
+          let is-greatest : pos x.1 ≡ greatest signed bits = ap highest_in are-bounds in
           rw (← negative_is, q, ← is-size, least-below signed bits n, ← is-greatest)
 
 -- ---- `within`

@@ -1,5 +1,5 @@
--- A loop that looks for a name, for `among` by its last: a law for each return of members.rt. Assumes nothing.
-use mathlib.Core.Path.{◌≡◌, refl, sym}
+-- A name among others, for `among` by its last: a law for each return of members.rt. Assumes nothing.
+use mathlib.Core.Path.{◌≡◌, refl, sym, ◌∙◌}
 use mathlib.Core.Bool.{Bool, true, false, ◌||◌}
 use mathlib.Core.List.{List}
 use Prim.Native.Nat.{ℕ, zero, suc, ◌+◌, ◌≤◌, ◌<◌}
@@ -8,48 +8,26 @@ use native.Mathlib.Omega.{arith}
 use borrow.Author.Rules.{rules}
 use borrow.Author.Tests.{eq-eqb, ne_eqb, eqb-true, eqb-false}
 use lib.Dec.{eqb}
-use lib.ListN.{length, get_or}
+use lib.ListN.{length, get_or, take}
+use lib.Seq.{take_all}
+use Rattle.std.specs.List.{list_any}
+use Rattle.std.proofs.lemmas.List.Folds.{list_any_more}
 use Rattle.definition.specs.declared.records.Constant.{Constant}
 use Rattle.definition.specs.Tree.{constant_tree, enumerated_tree}
 use Rattle.definition.specs.Ask.{ok, none}
 use Rattle.definition.specs.Scalar.{as_tree}
 use Rattle.scalar.specs.Members.{among, is_named, enumerated_by}
 
--- not among the first so many
-pub record Passed (names : List ℕ) (value k : ℕ) : Type 0 where
-  pub far : among names k value ≡ false
-
-pub starts : (names : List ℕ) (value : ℕ) → Passed names value 0
+-- the first so many names, one after the other
+among-taken : (names : List ℕ) (value k : ℕ) → k ≤ length names → list_any (λ y. eqb y value) (take k names) ≡ among names k value
 unfolding among
-starts names value = record { far = refl }
+among-taken names value zero h = refl
+among-taken names value (suc k) h =
+    rw (← add-one, list_any_more (λ y. eqb y value) names k 0 (omega arith), among-taken names value k (omega arith))
 
-module _ {names : List ℕ} {value k : ℕ} where
-  pub next : Passed names value k → (get_or names k 0 ≡ value → ⊥) → Passed names value (k + 1)
-  unfolding among
-  next i n = record { far = rw (add-one, i.far, ne_eqb _ _ n) }
-
-  pub finished : Passed names value k → k ≤ length names → length names ≤ k → false ≡ is_named names value
-  unfolding is_named
-  finished i h l =
-      let e : length names ≡ k = omega arith in
-      rw e (sym i.far)
-
-or-true : (b : Bool) → true ≡ b || true
-or-true true = refl
-or-true false = refl
-
-named-below : (names : List ℕ) (value k n : ℕ) → k < n → get_or names k 0 ≡ value → true ≡ among names n value
-unfolding among
-named-below names value k zero h e = absurd (omega arith)
-named-below names value k (suc n) h e = go (eqb k n) refl (λ l. named-below names value k n l e)
-  where
-    go : (b : Bool) → eqb k n ≡ b → (k < n → true ≡ among names n value) → true ≡ among names n value || eqb (get_or names n 0) value
-    go true q i = rw (← eqb-true k n q, eq-eqb _ _ e) (or-true (among names k value))
-    go false q i = rw (← i (omega (arith, eqb-false k n q)))
-
-pub found : (names : List ℕ) (value k : ℕ) → k < length names → get_or names k 0 ≡ value → true ≡ is_named names value
+pub any-named : (names : List ℕ) (value : ℕ) {r : Bool} → r ≡ list_any (λ y. eqb y value) names → r ≡ is_named names value
 unfolding is_named
-found names value k h e = named-below names value k (length names) h e
+any-named names value e = e ∙ (rw (take_all (length names) names (omega arith)) at (among-taken names value (length names) (omega arith)))
 
 module _ (names : List ℕ) (value qualifier : ℕ) {r : Bool} (h : r ≡ is_named names value) where
   pub member-kept : (c : Constant) → r ≡ true → constant_tree c ≡ enumerated_tree value qualifier → as_tree (ok c) ≡ enumerated_by names value qualifier
@@ -60,4 +38,4 @@ module _ (names : List ℕ) (value qualifier : ℕ) {r : Bool} (h : r ≡ is_nam
   unfolding enumerated_by as_tree
   member-none e = rw (← h, e)
 
-pub ruleset laws = (rules, starts, next, finished, found, member-kept, member-none)
+pub ruleset laws = (rules, any-named, member-kept, member-none)

@@ -10,10 +10,9 @@ use lib.ListN.{length, take, drop, length-drop, drop_of_length-le}
 use lib.Seq.{take_all, take-nil, take-length}
 use Rattle.definition.specs.declared.records.Constant.{Constant}
 use Rattle.definition.specs.Records.{constant_of}
-use Rattle.definition.specs.Ask.{ok, none}
-use Rattle.scalar.specs.declared.string.MaxLength.{MaxLength}
-use Rattle.scalar.specs.declared.string.MaxLength.TheVariants as most
-use Rattle.scalar.specs.String.{length_of, max_length_by, string_of, cut_by, Countable}
+use Rattle.definition.specs.Ask.{ok, none, result_of}
+use Rattle.std.specs.Prelude.{Option, Some, None}
+use Rattle.scalar.specs.String.{max_length_by, string_of, cut_by, Countable}
 
 -- ---- `max_length`
 module _ (setting : ℕ) where
@@ -44,12 +43,12 @@ module _ (first width : ℕ) {count : ℕ} where
   whole_run n = rw (ne_eqb _ _ n)
 
 -- ---- `cut_string`
-module _ (setting length width first count : ℕ) {r : MaxLength} (h : length_of r ≡ max_length_by setting length) where
-  pub cut-none : r ≡ most.None → none ≡ cut_by setting length width first count
+module _ (setting length width first count : ℕ) {r : Option ℕ} (h : result_of r ≡ max_length_by setting length) where
+  pub cut-none : r ≡ None → none ≡ cut_by setting length width first count
   unfolding cut_by
   cut-none e = rw (← h, e)
 
-  pub cut-value : {n : ℕ} → r ≡ most.Most n → {k : ℕ} → k ≡ min count n → {c : Constant} → c ≡ string_of first k (width + 2 * (count - k))
+  pub cut-value : {n : ℕ} → r ≡ Some n → {k : ℕ} → k ≡ min count n → {c : Constant} → c ≡ string_of first k (width + 2 * (count - k))
       → ok c ≡ cut_by setting length width first count
   unfolding cut_by
   cut-value e m s = rw (← h, e, s, m)

@@ -1,8 +1,6 @@
-use Rattle.std.proofs.Common.{length, ◌-◌, ◌≤◌}
+-- `run_all` ends: each case takes words. Assumes nothing.
+use Rattle.std.proofs.Common.{length}
 use Rattle.tree_vectors.proofs.run_all.Given as goal
 
-abbrev pub invariant-loop-at : goal.invariant-loop-at
-invariant-loop-at g l = l.at ≤ length l.words
-
-abbrev pub decreases-loop-at : goal.decreases-loop-at
-decreases-loop-at g l = length l.words - l.at
+abbrev pub decreases-loop-head : goal.decreases-loop-head
+decreases-loop-head g l = length l.rest

@@ -2,14 +2,12 @@
 use mathlib.Core.Path.{◌≡◌}
 use Prim.Native.Nat.{◌-◌, ◌≤◌}
 use lib.ListN.{length}
-use Rattle.laws.specs.Accepted.{Accepted}
-use Rattle.records.specs.Starts.{StartsOf}
 use Rattle.records.specs.Tables.{Filled}
 use Rattle.acceptance.specs.Nesting.{count_of, depth_of}
 use Rattle.acceptance.proofs.depths.fill.Given as goal
 
 abbrev pub invariant-loop-n : goal.invariant-loop-n
-invariant-loop-n l = (l.n ≤ l.many) × (l.many ≤ length l.initial.words) × (length l.words ≡ length l.initial.words) × (l.many ≡ count_of l.file l.nesting) × StartsOf l.file l.source × Accepted l.file × Filled (depth_of l.file l.nesting) l.n l.initial.words l.words
+invariant-loop-n l = (l.n ≤ l.many) × (l.many ≤ length l.initial.words) × (length l.words ≡ length l.initial.words) × (l.many ≡ count_of l.file.source l.nesting) × Filled (depth_of l.file.source l.nesting) l.n l.initial.words l.words
 
 abbrev pub decreases-loop-n : goal.decreases-loop-n
 decreases-loop-n l = l.many - l.n

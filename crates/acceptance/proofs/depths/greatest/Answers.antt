@@ -2,32 +2,14 @@
 use mathlib.Core.Path.{sym}
 use native.Mathlib.Omega.{arith}
 use lib.Seq.{length-take-le}
-use Rattle.acceptance.proofs.Nests.{leveling}
+use Rattle.records.proofs.Filling.{zeroed-again}
 use Rattle.acceptance.proofs.depths.greatest.Goals as goal
-
-pub count_of-many-requires : goal.count_of-many-requires
-count_of-many-requires c = search leveling
-
-pub fill-requires : goal.fill-requires
-fill-requires c = search leveling
-
-pub overflow_cast-end : goal.overflow_cast-end
-overflow_cast-end c = search leveling
-
-pub slice_bounds-deepest-end : goal.slice_bounds-deepest-end
-slice_bounds-deepest-end c = search leveling
 
 pub slice_bounds-deepest-end-2 : goal.slice_bounds-deepest-end-2
 slice_bounds-deepest-end-2 c = sym (length-take-le _ _ (omega arith))
 
-pub deepest-most-requires : goal.deepest-most-requires
-deepest-most-requires c = search leveling
-
-pub clear-requires : goal.clear-requires
-clear-requires c = search leveling
-
-pub shape_of-words : goal.shape_of-words
-shape_of-words c = search leveling
-
-pub returns : goal.returns
-returns c = search leveling
+pub returns-clause-cleared : goal.returns-clause-cleared
+returns-clause-cleared c =
+    let zeros = c.fill-2.ensures.after (λ y e. e) in
+    let long = length-take-le c.count_of-many.result c.fill.new.words (omega arith) in
+    zeroed-again c.fill.ensures (rw (zeros, long)) c.requires.1

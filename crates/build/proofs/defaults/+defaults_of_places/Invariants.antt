@@ -5,24 +5,24 @@ use Rattle.build.proofs.Gathers.{SoFar}
 use Rattle.build.proofs.defaults.+defaults_of_places.Given as goal
 
 abbrev pub decreases-default_of : goal.decreases-default_of
-decreases-default_of l = 4 * start_levels l.file.now l.place + 3
+decreases-default_of l = 4 * start_levels l.file.now.source l.place + 3
 
 abbrev pub decreases-element_defaults : goal.decreases-element_defaults
-decreases-element_defaults l = 4 * implicit_levels l.file.now l.place + 1
+decreases-element_defaults l = 4 * implicit_levels l.file.now.source l.place + 1
 
 abbrev pub decreases-field_default : goal.decreases-field_default
-decreases-field_default l = 4 * implicit_levels l.file.now l.place
+decreases-field_default l = 4 * implicit_levels l.file.now.source l.place
 
 abbrev pub decreases-fields : goal.decreases-fields
-decreases-fields l = 4 * implicit_levels l.file.now l.place + 1
+decreases-fields l = 4 * implicit_levels l.file.now.source l.place + 1
 
 abbrev pub invariant-fields-loop-left : goal.invariant-fields-loop-left
 invariant-fields-loop-left l =
-    SoFar l.file l.known l.store l.place l.section l.first l.many l.at l.initial.room l.k l.left l.made l.to l.room
+    SoFar l.file.source l.known l.store l.place l.section l.first l.many l.at l.initial.room l.k l.left l.made l.to l.room
 
 abbrev pub decreases-fields-loop-left : goal.decreases-fields-loop-left
 decreases-fields-loop-left l =
     l.left
 
 abbrev pub decreases-implicit : goal.decreases-implicit
-decreases-implicit l = 4 * implicit_levels l.file.now l.place + 2
+decreases-implicit l = 4 * implicit_levels l.file.now.source l.place + 2

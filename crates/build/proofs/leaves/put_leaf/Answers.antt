@@ -2,32 +2,8 @@
 use Rattle.build.proofs.leaves.Laws.{laws}
 use Rattle.build.proofs.leaves.put_leaf.Goals as goal
 
-pub enum_known-leaf : goal.enum_known-leaf
-enum_known-leaf c = search laws
-
-pub write_leaf-requires : goal.write_leaf-requires
-write_leaf-requires c = search laws
-
-pub enum_known-end : goal.enum_known-end
-enum_known-end c = search laws
-
-pub enum_told-1 : goal.enum_told-1
-enum_told-1 c = search laws
-
-pub enum_told-in-None : goal.enum_told-in-None
-enum_told-in-None c = search laws
-
-pub shape_of-room-in-Ends : goal.shape_of-room-in-Ends
-shape_of-room-in-Ends c = search laws
-
-pub returns-in-Ends : goal.returns-in-Ends
-returns-in-Ends c = search laws
-
-pub shape_of-room-in-Not : goal.shape_of-room-in-Not
-shape_of-room-in-Not c = search laws
-
-pub returns-in-Not : goal.returns-in-Not
-returns-in-Not c = search laws
+pub returns-in-Some-write_leaf : goal.returns-in-Some-write_leaf
+returns-in-Some-write_leaf c = search laws
 
 pub returns-in-None : goal.returns-in-None
 returns-in-None c = search laws

@@ -1,30 +1,11 @@
 -- `convert::convert` meets its contract. Assumes nothing.
-use Rattle.conversion.proofs.convert.Laws.{conversions}
+use Rattle.conversion.proofs.convert.Laws.{value-wrote, refusal-keeps}
 use Rattle.conversion.proofs.convert.convert.Goals as goal
 
-pub refused-refusal-requires : goal.refused-refusal-requires
-refused-refusal-requires c = search conversions
+pub returns-in_err-file-clause-wrote : goal.returns-in_err-file-clause-wrote
+returns-in_err-file-clause-wrote c = let a = c.args in refusal-keeps a.words.now a.shape a.constant _ c.in_err-file.ensures _
 
-pub returns-then-refusal-ne0 : goal.returns-then-refusal-ne0
-returns-then-refusal-ne0 c = search conversions
-
-pub value_at-leaf-requires : goal.value_at-leaf-requires
-value_at-leaf-requires c = search conversions
-
-pub enum_known-leaf : goal.enum_known-leaf
-enum_known-leaf c = search conversions
-
-pub put-requires : goal.put-requires
-put-requires c = search conversions
-
-pub enum_told-1 : goal.enum_told-1
-enum_told-1 c = search conversions
-
-pub shape_of-out : goal.shape_of-out
-shape_of-out c = search conversions
-
-pub returns-in-Value : goal.returns-in-Value
-returns-in-Value c = search conversions
-
-pub returns-in-None : goal.returns-in-None
-returns-in-None c = search conversions
+pub returns-in-Some-clause-wrote : goal.returns-in-Some-clause-wrote
+returns-in-Some-clause-wrote c =
+    let a = c.args in let i = c.in_ok-file.ensures in
+    value-wrote a.words.now a.shape a.constant i.1 i.0 _ c.value_at.ensures c.in-Some.is _ c.put.ensures.wrote

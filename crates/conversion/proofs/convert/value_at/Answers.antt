@@ -4,6 +4,3 @@ use Rattle.conversion.proofs.convert.value_at.Goals as goal
 
 pub constant_value-requires : goal.constant_value-requires
 constant_value-requires c = search conversions
-
-pub returns : goal.returns
-returns c = search conversions

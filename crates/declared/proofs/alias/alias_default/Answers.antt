@@ -2,9 +2,6 @@
 use Rattle.declared.proofs.alias.Laws.{laws}
 use Rattle.declared.proofs.alias.alias_default.Goals as goal
 
-pub initializer_at-v-requires : goal.initializer_at-v-requires
-initializer_at-v-requires c = search laws
-
 pub word-name-requires : goal.word-name-requires
 word-name-requires c = search laws
 

@@ -12,8 +12,7 @@ spec_default-base-requires c = search laws
 
 pub over_base-requires : goal.over_base-requires
 over_base-requires c =
-    let s = c in
-    (c.requires.0.starts, c.requires.0.accepted, c.requires.1, c.requires.3, omega (arith, c.requires.4, levels-some c.args.file.now c.args.place))
+    (c.requires.1, c.requires.3, omega (arith, c.requires.4, levels-some c.args.file.now.source c.args.place))
 
 pub shape_of-room : goal.shape_of-room
 shape_of-room c = search laws

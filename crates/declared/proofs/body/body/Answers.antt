@@ -5,9 +5,6 @@ use Rattle.declared.proofs.body.body.Goals as goal
 pub place_of-place-requires : goal.place_of-place-requires
 place_of-place-requires c = search laws
 
-pub declaration_at-d-requires : goal.declaration_at-d-requires
-declaration_at-d-requires c = search laws
-
 pub declared_default-requires : goal.declared_default-requires
 declared_default-requires c = search laws
 

@@ -16,13 +16,12 @@ word-i-requires c = search laws
 
 pub initializer-requires : goal.initializer-requires
 initializer-requires c =
-    let s = c in
     let a = c.requires.0.accepted in
     let w = c.field_place in (
       c.requires.0,
-      element_place_lem c.args.file.now c.args.place c.args.e c.word-name.ensures w.result w.ensures c.in-Place.is a c.requires.1,
-      element-init c.args.file.now c.args.e c.word-i.ensures a c.requires.2,
-      element-room c.args.file.now c.args.place c.args.e c.word-name.ensures w.result w.ensures c.in-Place.is c.word-i.ensures c.args.at _ c.requires.3,
+      element_place_lem c.args.file.now.source c.args.place c.args.e c.word-name.ensures w.result w.ensures c.in-Some.is a c.requires.1,
+      element-init c.args.file.now.source c.args.e c.word-i.ensures a c.requires.2,
+      element-room c.args.file.now.source c.args.place c.args.e c.word-name.ensures w.result w.ensures c.in-Some.is c.word-i.ensures c.args.at _ c.requires.3,
     )
 
 pub enum_told-1 : goal.enum_told-1
@@ -31,8 +30,8 @@ enum_told-1 c = search laws
 pub shape_of-room : goal.shape_of-room
 shape_of-room c = search laws
 
-pub returns-in-Place : goal.returns-in-Place
-returns-in-Place c = search laws
-
 pub returns-in-None : goal.returns-in-None
 returns-in-None c = search laws
+
+pub returns-in-Some : goal.returns-in-Some
+returns-in-Some c = search laws

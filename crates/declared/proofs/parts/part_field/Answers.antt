@@ -31,5 +31,5 @@ shape_of-room c = search laws
 pub returns : goal.returns
 returns c =
     let s = c in
-    part-all c.args.file.now c.args.place c.args.section c.args.k c.word-name.ensures c.part_start-r.ensures c.in-Ends.is c.requires.4
+    part-all c.args.file.now.source c.args.place c.args.section c.args.k c.word-name.ensures c.part_start-r.ensures c.in-Ends.is c.requires.4
     (part-after c.requires.0 c.part_start-r.ensures c.in-Ends.is) c.name_field.ensures

@@ -12,9 +12,6 @@ loop-d-init t c = let p = c.requires in (p.0, goes-start p.1, front_same _, refl
 pub work_out-built-requires : goal.work_out-built-requires
 work_out-built-requires t c = let v = c.loop-d.invariant in (to-ready v.0 v.1.begun.held, v.1.begun.inside, v.0.roomy)
 
-pub enum_known-built : goal.enum_known-built
-enum_known-built t c = search rules
-
 pub append-requires : goal.append-requires
 append-requires t c = let v = c.loop-d.invariant in omega (arith, v.0.tables)
 
@@ -42,9 +39,6 @@ settle-stored-requires t c =
     let fr = goes-fresh v.1 c.work_out-built.ensures c.in-Wanted.is in
     (omega (arith, begin-less fr b.marks refl, v.1.fewer, c.decreases), (given-kept v.0 b.kept _ (search rules), begin-word fr b.marks))
 
-pub enum_known-stored : goal.enum_known-stored
-enum_known-stored t c = search rules
-
 pub loop-d-smaller : goal.loop-d-smaller
 loop-d-smaller t c =
     let v = c.loop-d.invariant in
@@ -62,24 +56,21 @@ loop-d-preserved t c =
     let k = c.work_out-built.auto in
     let l = c.begin_type.auto in
     let m = c.settle-stored.auto in
-    (given-kept v.0 y _ (search rules), goes-next v.1 w q r c.in-Ends.is, front-then v.2 y, search rules, search rules, search rules)
+    (given-kept v.0 y _ (search rules), goes-next v.1 w q r c.in-Some.is, front-then v.2 y, search rules, search rules, search rules)
 
-pub enum_told-1 : goal.enum_told-1
-enum_told-1 t c = search rules
+pub shape_of-known-in-None : goal.shape_of-known-in-None
+shape_of-known-in-None t c = let v = c.loop-d.invariant in let l = c.begin_type.auto in let m = c.settle-stored.auto in search rules
 
-pub shape_of-known-in-Full : goal.shape_of-known-in-Full
-shape_of-known-in-Full t c = let v = c.loop-d.invariant in let l = c.begin_type.auto in let m = c.settle-stored.auto in search rules
+pub shape_of-store-in-None : goal.shape_of-store-in-None
+shape_of-store-in-None t c = let v = c.loop-d.invariant in let m = c.settle-stored.auto in search rules
 
-pub shape_of-store-in-Full : goal.shape_of-store-in-Full
-shape_of-store-in-Full t c = let v = c.loop-d.invariant in let m = c.settle-stored.auto in search rules
+pub shape_of-room-in-None : goal.shape_of-room-in-None
+shape_of-room-in-None t c = let v = c.loop-d.invariant in let k = c.work_out-built.auto in let m = c.settle-stored.auto in search rules
 
-pub shape_of-room-in-Full : goal.shape_of-room-in-Full
-shape_of-room-in-Full t c = let v = c.loop-d.invariant in let k = c.work_out-built.auto in let m = c.settle-stored.auto in search rules
-
-pub returns-in-Full : goal.returns-in-Full
-returns-in-Full t c =
+pub returns-in-None : goal.returns-in-None
+returns-in-None t c =
     let v = c.loop-d.invariant in
     let w = c.work_out-built.ensures in
     let q = c.in-Wanted.is in
     let r = resolves-fresh (goes-fresh v.1 w q) c.begin_type.ensures.marks c.settle-stored.ensures.1 in
-    (front-then v.2 (front-then c.begin_type.ensures.kept c.settle-stored.ensures.0), goes-full v.1 w q r c.in-Full.is)
+    (front-then v.2 (front-then c.begin_type.ensures.kept c.settle-stored.ensures.0), goes-full v.1 w q r c.in-None.is)

@@ -12,7 +12,7 @@ decreases-settle l = zeros (index_in l.known.now)
 
 abbrev pub invariant-loop-d : goal.invariant-loop-d
 invariant-loop-d l =
-    Given l.file l.source l.known (length l.room) × Goes l.file l.t (index_in l.initial.known) l.initial.store l.end (index_in l.known) l.store l.last × Front l.initial.known l.known × (length l.known ≡ length l.initial.known) × (length l.store ≡ length l.initial.store) × (length l.room ≡ length l.initial.room)
+    Given l.file.source l.known (length l.room) × Goes l.file.source l.t (index_in l.initial.known) l.initial.store l.end (index_in l.known) l.store l.last × Front l.initial.known l.known × (length l.known ≡ length l.initial.known) × (length l.store ≡ length l.initial.store) × (length l.room ≡ length l.initial.room)
 
 abbrev pub decreases-loop-d : goal.decreases-loop-d
 decreases-loop-d l = zeros (index_in l.known)

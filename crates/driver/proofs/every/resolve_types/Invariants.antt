@@ -11,7 +11,7 @@ use Rattle.driver.proofs.every.resolve_types.Given as goal
 
 abbrev pub invariant-loop-t : goal.invariant-loop-t
 invariant-loop-t l =
-    Given l.file l.source l.known (length l.room) × Resolving l.file (index_in l.known) l.store l.end l.t × Front l.initial.known l.known × (l.many ≡ count l.file types) × (length l.known ≡ length l.initial.known) × (length l.store ≡ length l.initial.store) × (length l.room ≡ length l.initial.room)
+    Given l.file.source l.known (length l.room) × Resolving l.file.source (index_in l.known) l.store l.end l.t × Front l.initial.known l.known × (l.many ≡ count l.file.source types) × (length l.known ≡ length l.initial.known) × (length l.store ≡ length l.initial.store) × (length l.room ≡ length l.initial.room)
 
 abbrev pub decreases-loop-t : goal.decreases-loop-t
 decreases-loop-t l = l.many - l.t

@@ -4,9 +4,3 @@ use Rattle.driver.proofs.work.variable.Goals as goal
 
 pub declaration-requires : goal.declaration-requires
 declaration-requires c = search laws
-
-pub shape_of-room : goal.shape_of-room
-shape_of-room c = search laws
-
-pub returns : goal.returns
-returns c = search laws

@@ -2,41 +2,11 @@
 use Rattle.gather.proofs.Elements.{laws}
 use Rattle.gather.proofs.defaults.take_head.Goals as goal
 
-pub enum_known-b : goal.enum_known-b
-enum_known-b c = search laws
-
-pub flatten_values-v-requires : goal.flatten_values-v-requires
-flatten_values-v-requires c = search laws
-
 pub overflow_mul-result : goal.overflow_mul-result
 overflow_mul-result c = search laws
 
 pub overflow_add-result : goal.overflow_add-result
 overflow_add-result c = search laws
 
-pub overflow_cast-result : goal.overflow_cast-result
-overflow_cast-result c = search laws
-
-pub enum_told-1 : goal.enum_told-1
-enum_told-1 c = search laws
-
-pub enum_told-in-TooLarge : goal.enum_told-in-TooLarge
-enum_told-in-TooLarge c = search laws
-
-pub enum_known-b-in-Wanted-1 : goal.enum_known-b-in-Wanted-1
-enum_known-b-in-Wanted-1 c = search laws
-
-pub shape_of-room : goal.shape_of-room
-shape_of-room c = search laws
-
 pub returns-in-Ends : goal.returns-in-Ends
 returns-in-Ends c = search laws
-
-pub returns-in-None : goal.returns-in-None
-returns-in-None c = search laws
-
-pub returns-in-TooLarge : goal.returns-in-TooLarge
-returns-in-TooLarge c = search laws
-
-pub returns-in-Wanted : goal.returns-in-Wanted
-returns-in-Wanted c = search laws

@@ -2,14 +2,5 @@
 use Rattle.gather.proofs.Single.{simples}
 use Rattle.gather.proofs.leaves.put_simple.Goals as goal
 
-pub simple-value-requires : goal.simple-value-requires
-simple-value-requires c = search simples
-
-pub put_leaf-requires : goal.put_leaf-requires
-put_leaf-requires c = search simples
-
-pub shape_of-room : goal.shape_of-room
-shape_of-room c = search simples
-
 pub returns : goal.returns
 returns c = search simples

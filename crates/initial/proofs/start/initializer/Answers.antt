@@ -2,9 +2,6 @@
 use Rattle.initial.proofs.start.Laws.{laws}
 use Rattle.initial.proofs.start.initializer.Goals as goal
 
-pub initializer_at-v-requires : goal.initializer_at-v-requires
-initializer_at-v-requires c = search laws
-
 pub enum_told-1 : goal.enum_told-1
 enum_told-1 c = search laws
 

@@ -26,8 +26,8 @@ enum_told-1 c = search laws
 pub shape_of-room : goal.shape_of-room
 shape_of-room c = search laws
 
-pub returns-in-Place : goal.returns-in-Place
-returns-in-Place c = search laws
-
 pub returns-in-None : goal.returns-in-None
 returns-in-None c = search laws
+
+pub returns-in-Some : goal.returns-in-Some
+returns-in-Some c = search laws

@@ -8,8 +8,8 @@ shape_classes-requires c = search placing
 pub lay_out-requires : goal.lay_out-requires
 lay_out-requires c = search placing
 
-pub returns-in-Place : goal.returns-in-Place
-returns-in-Place c = search placing
+pub returns-in-Some : goal.returns-in-Some
+returns-in-Some c = search placing
 
 pub returns-in-None : goal.returns-in-None
 returns-in-None c = search placing

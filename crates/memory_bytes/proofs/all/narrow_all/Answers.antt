@@ -1,33 +1,11 @@
 -- `all::narrow_all` meets its contract. Assumes nothing.
-use Rattle.memory_bytes.proofs.Writing.{testing}
+use mathlib.Core.Path.{refl}
+use borrow.Author.Rules.{rules}
+use native.Mathlib.Omega.{arith}
+use Rattle.std.proofs.lemmas.Iterator.{YieldsList-from_range}
+use Rattle.std.proofs.lemmas.Iterator.Search.{all_from_yields_List}
+use Rattle.memory_bytes.proofs.Writing.{narrow-every}
 use Rattle.memory_bytes.proofs.all.narrow_all.Goals as goal
 
-pub loop-left-init : goal.loop-left-init
-loop-left-init c = search testing
-
-pub shape_in-requires : goal.shape_in-requires
-shape_in-requires c = search testing
-
-pub node_in-requires : goal.node_in-requires
-node_in-requires c = search testing
-
-pub narrow-requires : goal.narrow-requires
-narrow-requires c = search testing
-
-pub returns-then-not-narrow : goal.returns-then-not-narrow
-returns-then-not-narrow c = search testing
-
-pub overflow_add-at : goal.overflow_add-at
-overflow_add-at c = search testing
-
-pub overflow_sub-left : goal.overflow_sub-left
-overflow_sub-left c = search testing
-
-pub loop-left-smaller : goal.loop-left-smaller
-loop-left-smaller c = search testing
-
-pub loop-left-preserved : goal.loop-left-preserved
-loop-left-preserved c = search testing
-
 pub returns : goal.returns
-returns c = search testing
+returns c = narrow-every _ _ _ c.args.nodes (all_from_yields_List _ _ _ _ c.all.ensures.ran (YieldsList-from_range 0 c.args.nodes c.args.nodes refl (omega arith)) (λ x b q k. search rules))

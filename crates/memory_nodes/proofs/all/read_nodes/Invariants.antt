@@ -2,14 +2,11 @@
 use mathlib.Core.Path.{◌≡◌}
 use mathlib.Core.Bool.{true}
 use lib.ListN.{length}
-use Rattle.records.specs.Starts.{StartsOf}
+use Prim.Native.Nat.{◌-◌}
 use Rattle.memory_nodes.proofs.Along.{Along}
 use Rattle.memory_nodes.proofs.Loops.{Noding}
 use Rattle.memory_nodes.proofs.all.read_nodes.Given as goal
 
-abbrev pub invariant-loop-left : goal.invariant-loop-left
-invariant-loop-left l =
-    StartsOf l.file l.source × Along l.file l.tree l.shapes l.bytes l.at l.left l.from true × Noding l.file l.tree l.shapes l.bytes l.nodes l.initial.out l.at l.left l.from l.many l.out × (length l.out ≡ length l.initial.out)
-
-abbrev pub decreases-loop-left : goal.decreases-loop-left
-decreases-loop-left l = l.left
+abbrev pub invariant-loop : goal.invariant-loop
+invariant-loop l =
+    Along l.file.source l.tree l.shapes l.bytes l.at (l.nodes - l.counter) l.from true × Noding l.file.source l.tree l.shapes l.bytes l.nodes l.initial.out l.at l.counter l.from l.many l.out × (length l.out ≡ length l.initial.out)

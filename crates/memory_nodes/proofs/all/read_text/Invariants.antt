@@ -2,14 +2,11 @@
 use mathlib.Core.Path.{◌≡◌}
 use mathlib.Core.Bool.{true}
 use lib.ListN.{length}
-use Rattle.records.specs.Starts.{StartsOf}
+use Prim.Native.Nat.{◌-◌}
 use Rattle.memory_nodes.proofs.Along.{Along}
 use Rattle.memory_nodes.proofs.Loops.{Texting}
 use Rattle.memory_nodes.proofs.all.read_text.Given as goal
 
-abbrev pub invariant-loop-left : goal.invariant-loop-left
-invariant-loop-left l =
-    StartsOf l.file l.source × Along l.file l.tree l.shapes l.bytes l.at l.left l.from true × Texting l.file l.tree l.shapes l.bytes l.nodes l.initial.characters l.at l.left l.from l.end l.characters × (length l.characters ≡ length l.initial.characters)
-
-abbrev pub decreases-loop-left : goal.decreases-loop-left
-decreases-loop-left l = l.left
+abbrev pub invariant-loop : goal.invariant-loop
+invariant-loop l =
+    Along l.file.source l.tree l.shapes l.bytes l.at (l.nodes - l.counter) l.from true × Texting l.file.source l.tree l.shapes l.bytes l.nodes l.initial.characters l.at l.counter l.from l.end l.characters × (length l.characters ≡ length l.initial.characters)

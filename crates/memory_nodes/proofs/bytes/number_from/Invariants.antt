@@ -6,6 +6,3 @@ use Rattle.memory_nodes.proofs.bytes.number_from.Given as goal
 
 abbrev pub invariant-loop-left : goal.invariant-loop-left
 invariant-loop-left l = Numbering l.bytes l.at l.count l.left l.n × (l.count ≤ 8) × (l.at + l.count ≤ length l.bytes)
-
-abbrev pub decreases-loop-left : goal.decreases-loop-left
-decreases-loop-left l = l.left

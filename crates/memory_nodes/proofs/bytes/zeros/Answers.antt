@@ -1,24 +1,13 @@
 -- `bytes::zeros` meets its contract. Assumes nothing.
-use Rattle.memory_nodes.proofs.Numbering.{numbering}
+use lib.ListN.{take, drop}
+use Prim.Native.Nat.{◌-◌}
+use borrow.Author.Rules.{rules}
+use Rattle.std.proofs.lemmas.Iterator.{YieldsList-from_slice}
+use Rattle.std.proofs.lemmas.Iterator.Search.{all_from_yields_List}
+use Rattle.memory_nodes.proofs.Numbering.{all-zeros}
 use Rattle.memory_nodes.proofs.bytes.zeros.Goals as goal
 
-pub loop-at-init : goal.loop-at-init
-loop-at-init c = search numbering
-
-pub bounds-bytes-at : goal.bounds-bytes-at
-bounds-bytes-at c = search numbering
-
-pub returns-then-bytes-at-ne0 : goal.returns-then-bytes-at-ne0
-returns-then-bytes-at-ne0 c = search numbering
-
-pub overflow_add-at : goal.overflow_add-at
-overflow_add-at c = search numbering
-
-pub loop-at-smaller : goal.loop-at-smaller
-loop-at-smaller c = search numbering
-
-pub loop-at-preserved : goal.loop-at-preserved
-loop-at-preserved c = search numbering
-
 pub returns : goal.returns
-returns c = search numbering
+returns c =
+    let part = take (c.args.to - c.args.from) (drop c.args.from c.args.bytes.now) in
+    all-zeros part (all_from_yields_List _ _ _ _ c.all.ensures.ran (YieldsList-from_slice part cc) (λ x b q k. search rules))

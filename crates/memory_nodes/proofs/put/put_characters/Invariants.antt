@@ -4,8 +4,5 @@ use lib.ListN.{length}
 use Rattle.memory_nodes.proofs.Texts.{Characters}
 use Rattle.memory_nodes.proofs.put.put_characters.Given as goal
 
-abbrev pub invariant-loop-left : goal.invariant-loop-left
-invariant-loop-left l = Characters l.width l.many l.bytes l.from l.initial.characters l.at l.size l.place l.end l.left l.characters × (length l.characters ≡ length l.initial.characters)
-
-abbrev pub decreases-loop-left : goal.decreases-loop-left
-decreases-loop-left l = l.left
+abbrev pub invariant-loop : goal.invariant-loop
+invariant-loop l = Characters l.width l.many l.bytes l.from l.initial.characters l.at l.size l.place l.end l.counter l.characters × (length l.characters ≡ length l.initial.characters)

@@ -6,7 +6,7 @@ use Rattle.places.proofs.Steps.{Comes}
 use Rattle.places.proofs.block.recorded_block.Given as goal
 
 abbrev pub invariant-loop-left : goal.invariant-loop-left
-invariant-loop-left l = StartsOf l.file l.source × (l.at < 2 ^ 32 - 1) × Comes (recorded_up_to l.file) l.left l.at (recorded_block l.file l.t)
+invariant-loop-left l = (l.at < 2 ^ 32 - 1) × Comes (recorded_up_to l.file) l.left l.at (recorded_block l.file l.t)
 
 abbrev pub decreases-loop-left : goal.decreases-loop-left
 decreases-loop-left l = l.left

@@ -8,7 +8,7 @@ use Rattle.places.proofs.Steps.{Comes}
 use Rattle.places.proofs.place.leaf_place.Given as goal
 
 abbrev pub invariant-loop-left : goal.invariant-loop-left
-invariant-loop-left l = StartsOf l.file l.source × Accepted l.file × Classes l.file l.classes × PlaceIn l.file l.leaf × Comes (innermost l.file) l.left l.leaf (leaf_place l.file l.initial.leaf)
+invariant-loop-left l = Classes l.file.source l.classes × PlaceIn l.file.source l.leaf × Comes (innermost l.file.source) l.left l.leaf (leaf_place l.file.source l.initial.leaf)
 
 abbrev pub decreases-loop-left : goal.decreases-loop-left
 decreases-loop-left l = l.left

@@ -2,18 +2,6 @@
 use Rattle.places.proofs.place.Laws.{own-kept, own-left, laws}
 use Rattle.places.proofs.place.own_type.Goals as goal
 
-pub returns-then-id-eq0 : goal.returns-then-id-eq0
-returns-then-id-eq0 c = search laws
-
-pub overflow_sub-id : goal.overflow_sub-id
-overflow_sub-id c = search laws
-
-pub word-own-requires : goal.word-own-requires
-word-own-requires c = search laws
-
-pub same_shape-requires : goal.same_shape-requires
-same_shape-requires c = search laws
-
 pub returns-then-same_shape : goal.returns-then-same_shape
 returns-then-same_shape c = own-kept _ _ _ c.if-id-eq0.false c.word-own.ensures c.same_shape.ensures c.if-same_shape.true
 

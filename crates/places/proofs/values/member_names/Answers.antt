@@ -1,15 +1,11 @@
 -- `values::member_names` meets its contract. Assumes nothing.
-use Rattle.places.proofs.values.Laws.{laws}
+use mathlib.Core.Path.{refl}
+use native.Mathlib.Omega.{arith}
+use Rattle.places.proofs.values.Laws.{members-end, members_run}
 use Rattle.places.proofs.values.member_names.Goals as goal
 
-pub member_at-from-requires : goal.member_at-from-requires
-member_at-from-requires c = search laws
-
-pub overflow_add-from : goal.overflow_add-from
-overflow_add-from c = search laws
-
 pub part-requires : goal.part-requires
-part-requires c = search laws
+part-requires c = (omega arith, members-end c.args.file.now.accepted c.args.first c.args.many c.requires c.member_at-from.ensures.is c.words.ensures)
 
 pub returns : goal.returns
-returns c = search laws
+returns c = members_run c.args.file.now.accepted c.args.first c.args.many c.requires c.member_at-from.ensures.is c.words.ensures refl c.part.ensures

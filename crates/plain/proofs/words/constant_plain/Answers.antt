@@ -4,33 +4,13 @@ use Rattle.std.proofs.Common.{refl, arith, rules}
 use Rattle.records.proofs.Listed.{in-run, past}
 use Rattle.plain.proofs.words.constant_plain.Goals as goal
 
-pub unused3-requires : goal.unused3-requires
-unfolding constant_plain
-unused3-requires c = search rules
-
-pub signed-requires : goal.signed-requires
-unfolding constant_plain
-signed-requires c = search rules
-
-pub unused1-requires : goal.unused1-requires
-unfolding constant_plain
-unused1-requires c = search rules
-
-pub signed-requires-in-4 : goal.signed-requires-in-4
-unfolding constant_plain
-signed-requires-in-4 c = search rules
-
-pub unused2-requires : goal.unused2-requires
-unfolding constant_plain
-unused2-requires c = search rules
-
 pub returns-in-0 : goal.returns-in-0
 unfolding constant_plain
-returns-in-0 c = rw c.in-0.is (rw c.unused3.ensures)
+returns-in-0 c = rw c.in-0.is (rw c.unused.ensures)
 
 pub returns-in-1 : goal.returns-in-1
 unfolding constant_plain
-returns-in-1 c = rw c.in-1.is (rw (c.unused1.ensures, c.signed.ensures))
+returns-in-1 c = rw c.in-1.is (rw (c.unused-in-1.ensures, c.signed.ensures))
 
 pub returns-in-4 : goal.returns-in-4
 unfolding constant_plain
@@ -38,7 +18,7 @@ returns-in-4 c = rw c.in-4.is (rw c.signed-in-4.ensures)
 
 pub returns-in-2-to-3 : goal.returns-in-2-to-3
 unfolding constant_plain
-returns-in-2-to-3 c = let a = c.args in in-run (λ k. constant_plain k a.sign a.low a.high a.width) 2 2 a.kind (omega arith) (omega arith) (refl, (refl, tt)) (rw c.unused2.ensures)
+returns-in-2-to-3 c = let a = c.args in in-run (λ k. constant_plain k a.sign a.low a.high a.width) 2 2 a.kind (omega arith) (omega arith) (refl, (refl, tt)) (rw c.unused-in-2-to-3.ensures)
 
 pub returns-in-5-to-8 : goal.returns-in-5-to-8
 unfolding constant_plain

@@ -3,14 +3,6 @@ use Rattle.definition.specs.Accept.{dimension_plain}
 use Rattle.std.proofs.Common.{rules}
 use Rattle.plain.proofs.words.dimension_plain.Goals as goal
 
-pub biased-requires : goal.biased-requires
-unfolding dimension_plain
-biased-requires c = search rules
-
-pub biased-requires-2 : goal.biased-requires-2
-unfolding dimension_plain
-biased-requires-2 c = search rules
-
 pub returns : goal.returns
 unfolding dimension_plain
 returns c = rw (c.biased-2.ensures, c.biased.ensures)

@@ -4,25 +4,9 @@ use Rattle.std.proofs.Common.{refl, arith, rules}
 use Rattle.records.proofs.Listed.{in-run, past}
 use Rattle.plain.proofs.words.entry_plain.Goals as goal
 
-pub unused1-requires : goal.unused1-requires
-unfolding entry_plain
-unused1-requires c = search rules
-
-pub is_name-requires : goal.is_name-requires
-unfolding entry_plain
-is_name-requires c = search rules
-
-pub unused1-requires-in-4 : goal.unused1-requires-in-4
-unfolding entry_plain
-unused1-requires-in-4 c = search rules
-
-pub unused2-requires : goal.unused2-requires
-unfolding entry_plain
-unused2-requires c = search rules
-
 pub returns-in-0 : goal.returns-in-0
 unfolding entry_plain
-returns-in-0 c = rw c.in-0.is (rw c.unused1.ensures)
+returns-in-0 c = rw c.in-0.is (rw c.unused.ensures)
 
 pub returns-in-1 : goal.returns-in-1
 unfolding entry_plain
@@ -30,11 +14,11 @@ returns-in-1 c = rw c.in-1.is (rw c.is_name.ensures)
 
 pub returns-in-4 : goal.returns-in-4
 unfolding entry_plain
-returns-in-4 c = rw c.in-4.is (rw c.unused1-in-4.ensures)
+returns-in-4 c = rw c.in-4.is (rw c.unused-in-4.ensures)
 
 pub returns-in-5 : goal.returns-in-5
 unfolding entry_plain
-returns-in-5 c = rw c.in-5.is (rw c.unused2.ensures)
+returns-in-5 c = rw c.in-5.is (rw c.unused-in-5.ensures)
 
 pub returns-in-6 : goal.returns-in-6
 unfolding entry_plain

@@ -3,10 +3,6 @@ use Rattle.definition.specs.Accept.{shape_field_plain}
 use Rattle.std.proofs.Common.{rules}
 use Rattle.plain.proofs.words.shape_field_plain.Goals as goal
 
-pub is_name-requires : goal.is_name-requires
-unfolding shape_field_plain
-is_name-requires c = search rules
-
 pub returns : goal.returns
 unfolding shape_field_plain
 returns c = rw c.is_name.ensures

@@ -2,4 +2,4 @@
 use Rattle.plain.proofs.words.signed.Goals as goal
 
 pub returns : goal.returns
-returns c = rw c.unused2.ensures
+returns c = rw c.unused.ensures

@@ -4,85 +4,45 @@ use Rattle.std.proofs.Common.{refl, rules}
 use Rattle.records.proofs.Listed.{behind}
 use Rattle.plain.proofs.words.type_plain.Goals as goal
 
-pub unused4-requires : goal.unused4-requires
-unfolding type_plain
-unused4-requires c = search rules
-
-pub unused3-requires : goal.unused3-requires
-unfolding type_plain
-unused3-requires c = search rules
-
-pub unused2-requires : goal.unused2-requires
-unfolding type_plain
-unused2-requires c = search rules
-
-pub unused3-requires-in-3 : goal.unused3-requires-in-3
-unfolding type_plain
-unused3-requires-in-3 c = search rules
-
-pub unused1-requires : goal.unused1-requires
-unfolding type_plain
-unused1-requires c = search rules
-
-pub unused2-requires-in-5 : goal.unused2-requires-in-5
-unfolding type_plain
-unused2-requires-in-5 c = search rules
-
-pub unused3-requires-in-6 : goal.unused3-requires-in-6
-unfolding type_plain
-unused3-requires-in-6 c = search rules
-
-pub unused3-requires-in-7 : goal.unused3-requires-in-7
-unfolding type_plain
-unused3-requires-in-7 c = search rules
-
-pub unused3-requires-in-8 : goal.unused3-requires-in-8
-unfolding type_plain
-unused3-requires-in-8 c = search rules
-
-pub unused2-requires-in-9 : goal.unused2-requires-in-9
-unfolding type_plain
-unused2-requires-in-9 c = search rules
-
 pub returns-in-0 : goal.returns-in-0
 unfolding type_plain
-returns-in-0 c = rw c.in-0.is (rw c.unused4.ensures)
+returns-in-0 c = rw c.in-0.is (rw c.unused.ensures)
 
 pub returns-in-1 : goal.returns-in-1
 unfolding type_plain
-returns-in-1 c = rw c.in-1.is (rw c.unused3.ensures)
+returns-in-1 c = rw c.in-1.is (rw c.unused-in-1.ensures)
 
 pub returns-in-2 : goal.returns-in-2
 unfolding type_plain
-returns-in-2 c = rw c.in-2.is (rw c.unused2.ensures)
+returns-in-2 c = rw c.in-2.is (rw c.unused-in-2.ensures)
 
 pub returns-in-3 : goal.returns-in-3
 unfolding type_plain
-returns-in-3 c = rw c.in-3.is (rw c.unused3-in-3.ensures)
+returns-in-3 c = rw c.in-3.is (rw c.unused-in-3.ensures)
 
 pub returns-in-4 : goal.returns-in-4
 unfolding type_plain
-returns-in-4 c = rw c.in-4.is (rw c.unused1.ensures)
+returns-in-4 c = rw c.in-4.is (rw c.unused-in-4.ensures)
 
 pub returns-in-5 : goal.returns-in-5
 unfolding type_plain
-returns-in-5 c = rw c.in-5.is (rw c.unused2-in-5.ensures)
+returns-in-5 c = rw c.in-5.is (rw c.unused-in-5.ensures)
 
 pub returns-in-6 : goal.returns-in-6
 unfolding type_plain
-returns-in-6 c = rw c.in-6.is (rw c.unused3-in-6.ensures)
+returns-in-6 c = rw c.in-6.is (rw c.unused-in-6.ensures)
 
 pub returns-in-7 : goal.returns-in-7
 unfolding type_plain
-returns-in-7 c = rw c.in-7.is (rw c.unused3-in-7.ensures)
+returns-in-7 c = rw c.in-7.is (rw c.unused-in-7.ensures)
 
 pub returns-in-8 : goal.returns-in-8
 unfolding type_plain
-returns-in-8 c = rw c.in-8.is (rw c.unused3-in-8.ensures)
+returns-in-8 c = rw c.in-8.is (rw c.unused-in-8.ensures)
 
 pub returns-in-9 : goal.returns-in-9
 unfolding type_plain
-returns-in-9 c = rw c.in-9.is (rw c.unused2-in-9.ensures)
+returns-in-9 c = rw c.in-9.is (rw c.unused-in-9.ensures)
 
 pub returns-in_default : goal.returns-in_default
 unfolding type_plain

@@ -6,8 +6,8 @@ use Rattle.records.proofs.words.find_sections.Goals as goal
 pub loop-s-init : goal.loop-s-init
 loop-s-init c = search (rules, first-start)
 
-pub section_end-end-requires : goal.section_end-end-requires
-section_end-end-requires c = search (rules, start-most)
+pub section_end-requires : goal.section_end-requires
+section_end-requires c = search (rules, start-most)
 
 pub loop-s-preserved : goal.loop-s-preserved
 loop-s-preserved c = search (rules, next_start)

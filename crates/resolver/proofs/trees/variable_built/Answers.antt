@@ -6,12 +6,9 @@ use Rattle.resolver.proofs.Answering.{passed-given, passed-ample}
 use Rattle.resolver.proofs.trees.variable_built.Goals as goal
 
 pub shape_classes-requires : goal.shape_classes-requires
-shape_classes-requires c =
-    let p = c.requires in
-    (c.source_of-source.ensures.0, p.accepted, omega (arith, few-shapes _ p.accepted))
+shape_classes-requires c = omega (arith, few-shapes _ c.requires.accepted)
 
 pub variable_outcome-requires : goal.variable_outcome-requires
 variable_outcome-requires c =
     let p = c.requires in
-    let s = c.source_of-source.ensures in
-    (passed-given p s.0 s.1 _ c.shape_classes.ensures (search rules), p.inside, passed-ample p)
+    (passed-given p _ c.shape_classes.ensures (search rules), p.inside, passed-ample p)

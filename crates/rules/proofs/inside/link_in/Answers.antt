@@ -3,10 +3,6 @@ use Rattle.definition.specs.Accept.{link_in}
 use borrow.Author.Rules.{rules}
 use Rattle.rules.proofs.inside.link_in.Goals as goal
 
-pub count-requires : goal.count-requires
-unfolding link_in
-count-requires c = search rules
-
 pub returns : goal.returns
 unfolding link_in
 returns c = rw c.count.ensures

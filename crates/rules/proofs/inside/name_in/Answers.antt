@@ -3,10 +3,6 @@ use Rattle.definition.specs.Accept.{name_in}
 use borrow.Author.Rules.{rules}
 use Rattle.rules.proofs.inside.name_in.Goals as goal
 
-pub link_in-requires : goal.link_in-requires
-unfolding name_in
-link_in-requires c = search rules
-
 pub returns : goal.returns
 unfolding name_in
 returns c = rw c.link_in.ensures

@@ -3,10 +3,6 @@ use Rattle.definition.specs.Accept.{number_in}
 use borrow.Author.Rules.{rules}
 use Rattle.rules.proofs.inside.number_in.Goals as goal
 
-pub count-requires : goal.count-requires
-unfolding number_in
-count-requires c = search rules
-
 pub returns : goal.returns
 unfolding number_in
 returns c = rw c.count.ensures

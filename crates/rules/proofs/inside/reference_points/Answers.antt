@@ -3,14 +3,6 @@ use Rattle.definition.specs.Accept.{reference_points}
 use borrow.Author.Rules.{rules}
 use Rattle.rules.proofs.inside.reference_points.Goals as goal
 
-pub word-kind-requires : goal.word-kind-requires
-unfolding reference_points
-word-kind-requires c = search rules
-
-pub number_in-requires : goal.number_in-requires
-unfolding reference_points
-number_in-requires c = search rules
-
 pub returns : goal.returns
 unfolding reference_points
 returns c = rw (c.number_in.ensures, c.word-kind.ensures)

@@ -4,22 +4,6 @@ use Rattle.rules.specs.Rules.{point_rule}
 use borrow.Author.Rules.{rules}
 use Rattle.rules.proofs.rules.entry_links.Goals as goal
 
-pub word-kind-requires : goal.word-kind-requires
-unfolding point_rule point_rules
-word-kind-requires c = search rules
-
-pub word-a-requires : goal.word-a-requires
-unfolding point_rule point_rules
-word-a-requires c = search rules
-
-pub word-b-requires : goal.word-b-requires
-unfolding point_rule point_rules
-word-b-requires c = search rules
-
-pub entry_points-requires : goal.entry_points-requires
-unfolding point_rule point_rules
-entry_points-requires c = search rules
-
 pub returns : goal.returns
 unfolding point_rule point_rules
 returns c = rw (c.entry_points.ensures, c.word-b.ensures, c.word-a.ensures, c.word-kind.ensures)

@@ -6,58 +6,6 @@ use Rattle.records.proofs.Listed.{behind}
 use borrow.Author.Rules.{rules}
 use Rattle.rules.proofs.rules.point_rule.Goals as goal
 
-pub shape_links-requires : goal.shape_links-requires
-unfolding point_rule point_rules
-shape_links-requires c = search rules
-
-pub word-requires : goal.word-requires
-unfolding point_rule point_rules
-word-requires c = search rules
-
-pub number_in-requires : goal.number_in-requires
-unfolding point_rule point_rules
-number_in-requires c = search rules
-
-pub type_points-requires : goal.type_points-requires
-unfolding point_rule point_rules
-type_points-requires c = search rules
-
-pub word-requires-in-6 : goal.word-requires-in-6
-unfolding point_rule point_rules
-word-requires-in-6 c = search rules
-
-pub link_in-requires : goal.link_in-requires
-unfolding point_rule point_rules
-link_in-requires c = search rules
-
-pub word-requires-in-7 : goal.word-requires-in-7
-unfolding point_rule point_rules
-word-requires-in-7 c = search rules
-
-pub number_in-requires-in-7 : goal.number_in-requires-in-7
-unfolding point_rule point_rules
-number_in-requires-in-7 c = search rules
-
-pub variable_links-requires : goal.variable_links-requires
-unfolding point_rule point_rules
-variable_links-requires c = search rules
-
-pub initializer_points-requires : goal.initializer_points-requires
-unfolding point_rule point_rules
-initializer_points-requires c = search rules
-
-pub entry_links-requires : goal.entry_links-requires
-unfolding point_rule point_rules
-entry_links-requires c = search rules
-
-pub expression_links-requires : goal.expression_links-requires
-unfolding point_rule point_rules
-expression_links-requires c = search rules
-
-pub constant_links-requires : goal.constant_links-requires
-unfolding point_rule point_rules
-constant_links-requires c = search rules
-
 pub returns-in-0 : goal.returns-in-0
 unfolding point_rule point_rules
 returns-in-0 c = rw c.in-0.is (refl)

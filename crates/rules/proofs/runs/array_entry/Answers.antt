@@ -4,18 +4,6 @@ use Rattle.rules.specs.Rules.{array_kind}
 use borrow.Author.Rules.{rules}
 use Rattle.rules.proofs.runs.array_entry.Goals as goal
 
-pub word-requires : goal.word-requires
-unfolding array_kind array_entry
-word-requires c = search rules
-
-pub word-requires-2 : goal.word-requires-2
-unfolding array_kind array_entry
-word-requires-2 c = search rules
-
-pub array_kind-requires : goal.array_kind-requires
-unfolding array_kind array_entry
-array_kind-requires c = search rules
-
 pub returns : goal.returns
 unfolding array_kind array_entry
 returns c = rw (c.array_kind.ensures, c.word-2.ensures, c.word.ensures)

@@ -3,14 +3,6 @@ use Rattle.definition.specs.Accept.{same_dimension}
 use borrow.Author.Rules.{rules}
 use Rattle.shapes.proofs.alike.same_dimension.Goals as goal
 
-pub same_run_word-requires : goal.same_run_word-requires
-unfolding same_dimension
-same_run_word-requires c = search rules
-
-pub same_run_word-requires-2 : goal.same_run_word-requires-2
-unfolding same_dimension
-same_run_word-requires-2 c = search rules
-
 pub returns : goal.returns
 unfolding same_dimension
 returns c = rw (c.same_run_word-2.ensures, c.same_run_word.ensures)

@@ -5,22 +5,6 @@ use Rattle.shapes.specs.Alike.{like_at, members_like, same_listed}
 use borrow.Author.Rules.{rules}
 use Rattle.shapes.proofs.like.enumeration_like.Goals as goal
 
-pub word-underlying-requires : goal.word-underlying-requires
-unfolding like_at members_like shape_of like_by same_listed
-word-underlying-requires c = search rules
-
-pub word-other-requires : goal.word-other-requires
-unfolding like_at members_like shape_of like_by same_listed
-word-other-requires c = search rules
-
-pub members_like-requires : goal.members_like-requires
-unfolding like_at members_like shape_of like_by same_listed
-members_like-requires c = search rules
-
-pub same_link-requires : goal.same_link-requires
-unfolding like_at members_like shape_of like_by same_listed
-same_link-requires c = search rules
-
 pub returns : goal.returns
 unfolding like_at members_like shape_of like_by same_listed
 returns c = rw (c.same_link.ensures, c.members_like.ensures, c.word-other.ensures, c.word-underlying.ensures)

@@ -6,22 +6,6 @@ use borrow.Author.Rules.{rules}
 use Rattle.shapes.proofs.Comparing.{by-bounds}
 use Rattle.shapes.proofs.like.inside_like.Goals as goal
 
-pub enumeration_like-requires : goal.enumeration_like-requires
-unfolding like_at array_like shape_of like_by same_listed
-enumeration_like-requires c = search rules
-
-pub same_runs-requires : goal.same_runs-requires
-unfolding like_at array_like shape_of like_by same_listed
-same_runs-requires c = search rules
-
-pub array_like-requires : goal.array_like-requires
-unfolding like_at array_like shape_of like_by same_listed
-array_like-requires c = search rules
-
-pub subrange_like-requires : goal.subrange_like-requires
-unfolding like_at array_like shape_of like_by same_listed
-subrange_like-requires c = search rules
-
 pub returns-in-10 : goal.returns-in-10
 unfolding like_at array_like shape_of like_by same_listed
 returns-in-10 c = rw c.in-10.is c.enumeration_like.ensures

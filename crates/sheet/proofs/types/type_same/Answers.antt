@@ -11,8 +11,5 @@ overflow_add-at c = search telling
 pub built_same-requires : goal.built_same-requires
 built_same-requires c = search telling
 
-pub shape_of-room : goal.shape_of-room
-shape_of-room c = search telling
-
 pub returns : goal.returns
 returns c = search telling

@@ -8,17 +8,11 @@ variable-built-requires c = search telling
 pub built_same-requires : goal.built_same-requires
 built_same-requires c = search telling
 
-pub shape_of-room-then-not-built_same : goal.shape_of-room-then-not-built_same
-shape_of-room-then-not-built_same c = search telling
-
 pub returns-then-not-built_same : goal.returns-then-not-built_same
 returns-then-not-built_same c = search telling
 
 pub completion_same-requires : goal.completion_same-requires
 completion_same-requires c = search telling
-
-pub shape_of-room : goal.shape_of-room
-shape_of-room c = search telling
 
 pub returns : goal.returns
 returns c = search telling

@@ -2,9 +2,6 @@
 use Rattle.sheet.proofs.Looping.{pairing-on, pairing}
 use Rattle.sheet.proofs.variables.variables_right.Goals as goal
 
-pub count-many-requires : goal.count-many-requires
-count-many-requires c = search pairing
-
 pub overflow_add-at : goal.overflow_add-at
 overflow_add-at c = search pairing
 
@@ -23,23 +20,11 @@ next_line-stop-requires c = search pairing
 pub variable_same-requires : goal.variable_same-requires
 variable_same-requires c = search pairing
 
-pub shape_of-room-then-not-variable_same : goal.shape_of-room-then-not-variable_same
-shape_of-room-then-not-variable_same c = search pairing
-
 pub returns-then-not-variable_same : goal.returns-then-not-variable_same
 returns-then-not-variable_same c = search pairing
 
-pub overflow_step-v : goal.overflow_step-v
-overflow_step-v c = search pairing
-
-pub loop-v-smaller : goal.loop-v-smaller
-loop-v-smaller c = search pairing
-
 pub loop-v-preserved : goal.loop-v-preserved
 loop-v-preserved c = (search pairing, pairing-on c.loop-v.invariant.1 c.next_line-end.ensures c.next_line-stop.ensures c.variable_same.ensures c.loop-v-test.true (search pairing), search pairing)
-
-pub shape_of-room : goal.shape_of-room
-shape_of-room c = search pairing
 
 pub returns : goal.returns
 returns c = search pairing

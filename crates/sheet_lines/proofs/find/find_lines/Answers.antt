@@ -1,27 +1,13 @@
 -- `find::find_lines` meets its contract. Assumes nothing.
+use mathlib.Core.Path.{◌∙◌}
 use Rattle.sheet_lines.proofs.Finding.{finds}
 use Rattle.sheet_lines.proofs.find.find_lines.Goals as goal
 
-pub count-types-requires : goal.count-types-requires
-count-types-requires c = search finds
+pub returns-in_err-end : goal.returns-in_err-end
+returns-in_err-end c = c.from_residual-in_err-end.ensures ∙ search (finds, c.in_ok-variables.was, c.in_ok-completed.was, c.in_err-end.was)
 
-pub count-many-requires : goal.count-many-requires
-count-many-requires c = search finds
+pub returns-then-end-sheet : goal.returns-then-end-sheet
+returns-then-end-sheet c = search (finds, c.in_ok-variables.was, c.in_ok-completed.was, c.in_ok-end.was)
 
-pub section_end-requires : goal.section_end-requires
-section_end-requires c = search finds
-
-pub enum_known-variables : goal.enum_known-variables
-enum_known-variables c = search finds
-
-pub after_types-requires : goal.after_types-requires
-after_types-requires c = search finds
-
-pub enum_told-1 : goal.enum_told-1
-enum_told-1 c = search finds
-
-pub returns-in-Ends : goal.returns-in-Ends
-returns-in-Ends c = search finds
-
-pub returns-in-Not : goal.returns-in-Not
-returns-in-Not c = search finds
+pub returns : goal.returns
+returns c = search (finds, c.in_ok-variables.was, c.in_ok-completed.was, c.in_ok-end.was)

@@ -1,10 +1,6 @@
 -- `small::types_small` meets its contract. Assumes nothing.
-use Prim.Native.Nat.{◌-◌}
 use Rattle.sheet_lines.proofs.Sizing.{Sizing}
 use Rattle.sheet_lines.proofs.small.types_small.Given as goal
 
 abbrev pub invariant-loop-t : goal.invariant-loop-t
 invariant-loop-t l = Sizing l.sheet l.many l.t l.place
-
-abbrev pub decreases-loop-t : goal.decreases-loop-t
-decreases-loop-t l = l.many - l.t

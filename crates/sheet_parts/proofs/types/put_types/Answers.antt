@@ -4,32 +4,14 @@ use borrow.Author.Rules.{rules}
 use Rattle.sheet_parts.proofs.Sections.{writing, type-next}
 use Rattle.sheet_parts.proofs.types.put_types.Goals as goal
 
-pub count-many-requires : goal.count-many-requires
-count-many-requires c = search writing
-
 pub put_word-end-requires : goal.put_word-end-requires
 put_word-end-requires c = search writing
 
 pub loop-t-init : goal.loop-t-init
 loop-t-init c = search writing
 
-pub overflow_cast-t : goal.overflow_cast-t
-overflow_cast-t c = search writing
-
-pub word_at-requires : goal.word_at-requires
-word_at-requires c = search writing
-
-pub type_line-line-requires : goal.type_line-line-requires
-type_line-line-requires c = search writing
-
 pub put_line-end-requires : goal.put_line-end-requires
 put_line-end-requires c = search writing
-
-pub overflow_add-t : goal.overflow_add-t
-overflow_add-t c = search writing
-
-pub loop-t-smaller : goal.loop-t-smaller
-loop-t-smaller c = search writing
 
 pub loop-t-preserved : goal.loop-t-preserved
 loop-t-preserved c =
@@ -39,9 +21,6 @@ loop-t-preserved c =
     let p = c.put_line-end in
     let l = p.auto in
     (type-next k i.2 h _ i.0 _ c.type_line-line.ensures c.word_at.ensures p.ensures, omega (arith, h), i.2, search rules)
-
-pub shape_of-out : goal.shape_of-out
-shape_of-out c = search writing
 
 pub returns : goal.returns
 returns c = search writing

@@ -4,6 +4,3 @@ use Rattle.sheet_parts.proofs.variables.put_completed.Goals as goal
 
 pub put_line-requires : goal.put_line-requires
 put_line-requires c = search putting
-
-pub returns : goal.returns
-returns c = search putting

@@ -4,6 +4,3 @@ use Rattle.sheet_parts.proofs.variables.put_variable.Goals as goal
 
 pub put_value-value-requires : goal.put_value-value-requires
 put_value-value-requires c = search putting
-
-pub returns : goal.returns
-returns c = search putting

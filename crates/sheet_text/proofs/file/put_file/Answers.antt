@@ -8,5 +8,5 @@ put_sheet-requires c = search files
 pub put_refusal-requires : goal.put_refusal-requires
 put_refusal-requires c = search files
 
-pub returns-in-Written : goal.returns-in-Written
-returns-in-Written c = search files
+pub returns-in-Ok-clause-text : goal.returns-in-Ok-clause-text
+returns-in-Ok-clause-text c = search files

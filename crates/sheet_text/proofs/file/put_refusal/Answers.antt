@@ -1,12 +1,17 @@
 -- `file::put_refusal` meets its contract. Assumes nothing.
-use Rattle.sheet_text.proofs.Filing.{files}
+use borrow.Author.Rules.{rules}
+use Rattle.writer.proofs.Refusing.{admitted-none, admitted-not}
+use Rattle.sheet_text.proofs.Filing.{long-printed, ten-printed, other-printed}
 use Rattle.sheet_text.proofs.file.put_refusal.Goals as goal
+use Rattle.sheet_text.proofs.file.put_refusal.Goals.{else-eq-via-then-eq+else-is_ok, else-eq-via-else-eq}
 
-pub returns-then-n-ne10 : goal.returns-then-n-ne10
-returns-then-n-ne10 c = search files
-
-pub returns-then-refusal-eq0 : goal.returns-then-refusal-eq0
-returns-then-refusal-eq0 c = search files
+pub returns-then-is_ok : goal.returns-then-is_ok
+returns-then-is_ok c =
+    long-printed c.requires.0 (search rules) (admitted-none _ _ _ _ c.admitted.result c.admitted.ensures (search rules)) c.put_long.ensures
 
 pub returns : goal.returns
-returns c = search files
+returns c =
+    elim c.else-eq.branch [
+      | else-eq-via-then-eq+else-is_ok w ↦ ten-printed c.requires.0 (search rules) (admitted-not _ _ _ _ w.admitted.result w.admitted.ensures (search rules)) c.number.ensures c.put_refused.ensures
+      | else-eq-via-else-eq w ↦ other-printed c.requires.0 (search rules) c.number.ensures c.put_refused.ensures
+    ]

@@ -2,29 +2,14 @@
 use Rattle.text.proofs.Numbers.{numbers}
 use Rattle.text.proofs.number.+put_number.Goals as goal
 
-pub digit-requires : goal.digit-requires
-digit-requires t c = search numbers
-
 pub put_byte-requires : goal.put_byte-requires
 put_byte-requires t c = search numbers
-
-pub shape_of-text-then-n-lt10 : goal.shape_of-text-then-n-lt10
-shape_of-text-then-n-lt10 t c = search numbers
 
 pub returns-then-n-lt10 : goal.returns-then-n-lt10
 returns-then-n-lt10 t c = search numbers
 
 pub put_number-end-requires : goal.put_number-end-requires
 put_number-end-requires t c = search numbers
-
-pub digit-requires-2 : goal.digit-requires-2
-digit-requires-2 t c = search numbers
-
-pub put_byte-requires-2 : goal.put_byte-requires-2
-put_byte-requires-2 t c = search numbers
-
-pub shape_of-text : goal.shape_of-text
-shape_of-text t c = search numbers
 
 pub returns : goal.returns
 returns t c = search numbers

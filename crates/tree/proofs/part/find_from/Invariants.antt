@@ -2,8 +2,5 @@
 use Rattle.tree.proofs.Finds.{Seeking}
 use Rattle.tree.proofs.part.find_from.Given as goal
 
-abbrev pub invariant-loop-left : goal.invariant-loop-left
-invariant-loop-left l = Seeking l.s l.from l.count l.name l.left l.at
-
-abbrev pub decreases-loop-left : goal.decreases-loop-left
-decreases-loop-left l = l.left
+abbrev pub invariant-loop : goal.invariant-loop
+invariant-loop l = Seeking l.s l.from l.count l.name l.counter l.at

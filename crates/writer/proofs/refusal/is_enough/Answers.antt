@@ -2,8 +2,5 @@
 use Rattle.writer.proofs.Refusing.{refusing}
 use Rattle.writer.proofs.refusal.is_enough.Goals as goal
 
-pub returns-then-lines-lesser : goal.returns-then-lines-lesser
-returns-then-lines-lesser c = search refusing
-
 pub returns : goal.returns
 returns c = search refusing

@@ -10,6 +10,3 @@ overflow_add-result-2 c = search sheets
 
 pub overflow_add-result-3 : goal.overflow_add-result-3
 overflow_add-result-3 c = search sheets
-
-pub returns : goal.returns
-returns c = search sheets

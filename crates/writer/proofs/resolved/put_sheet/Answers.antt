@@ -2,8 +2,5 @@
 use Rattle.writer.proofs.Fitting.{sheets}
 use Rattle.writer.proofs.resolved.put_sheet.Goals as goal
 
-pub put_types-requires : goal.put_types-requires
-put_types-requires c = search sheets
-
 pub returns : goal.returns
 returns c = search sheets

@@ -7,9 +7,9 @@ use Rattle.writer.proofs.sheet.write_given.Goals as goal
 pub write_resolved-requires : goal.write_resolved-requires
 write_resolved-requires c =
     let p = c.requires in
-    let s = c.resolve_types-stored in
+    let s = c.resolve_types in
     let k = s.auto in
-    (all-resolved p.1 p.2 p.0 s.ensures.0 s.ensures.1 c.in-Ends.is, room-kept p.1.roomy _ (search rules))
+    (all-resolved p.1 p.2 p.0 s.ensures.0 s.ensures.1 c.in-Some.is, room-kept p.1.roomy _ (search rules))
 
-pub returns-in-Full : goal.returns-in-Full
-returns-in-Full c = search resolved
+pub returns-in-None : goal.returns-in-None
+returns-in-None c = search resolved

@@ -8,8 +8,8 @@ lowest_ranks-requires c = search lowests
 pub write_ranked-requires : goal.write_ranked-requires
 write_ranked-requires c = search lowests
 
-pub returns-in-Ranks : goal.returns-in-Ranks
-returns-in-Ranks c = search lowests
+pub returns-in-Ok : goal.returns-in-Ok
+returns-in-Ok c = search lowests
 
-pub returns-in-Circle : goal.returns-in-Circle
-returns-in-Circle c = search lowests
+pub returns-in-Err : goal.returns-in-Err
+returns-in-Err c = search lowests

@@ -8,12 +8,11 @@ use Rattle.writer.proofs.sheet.write_passed.Goals as goal
 pub slice_bounds-ranks-end : goal.slice_bounds-ranks-end
 slice_bounds-ranks-end c = omega (arith, few-types _ (passed-accepted c.requires), c.count-many.ensures)
 
-pub slice_bounds-write_lowest-end-2 : goal.slice_bounds-write_lowest-end-2
-slice_bounds-write_lowest-end-2 c = prefix-zeros c.count-many.result 1024 (omega (arith, few-types _ (passed-accepted c.requires), c.count-many.ensures))
+pub slice_bounds-write_lowest-end : goal.slice_bounds-write_lowest-end
+slice_bounds-write_lowest-end c = prefix-zeros c.count-many.result 1024 (omega (arith, few-types _ (passed-accepted c.requires), c.count-many.ensures))
 
 pub write_lowest-requires : goal.write_lowest-requires
 write_lowest-requires c =
     let p = c.requires in
     let n = c.count-many in
-    let s = c.source_of-source.ensures in
-    (s.0, s.1, p, sym (prefix-zeros n.result 1024 (omega (arith, few-types _ (passed-accepted p), n.ensures))) ∙ n.ensures)
+    (p, sym (prefix-zeros n.result 1024 (omega (arith, few-types _ (passed-accepted p), n.ensures))) ∙ n.ensures)

@@ -7,11 +7,9 @@ use borrow.Author.Rules.{rules}
 use Rattle.writer.proofs.sheet.write_ranked.Goals as goal
 
 pub shape_classes-requires : goal.shape_classes-requires
-shape_classes-requires c =
-    let p = c.requires in
-    (p.0, passed-accepted p.2, omega (arith, few-shapes _ (passed-accepted p.2)))
+shape_classes-requires c = omega (arith, few-shapes _ (passed-accepted c.requires.0))
 
 pub write_given-requires : goal.write_given-requires
 write_given-requires c =
     let p = c.requires in
-    (tables-given (passed-accepted p.2) p.2.roomy p.0 p.1 _ c.shape_classes.ensures (search rules), p.2, p.3)
+    (tables-given (passed-accepted p.0) p.0.roomy _ c.shape_classes.ensures (search rules), p.0, p.1)

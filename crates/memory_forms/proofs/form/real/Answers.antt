@@ -1,9 +1,0 @@
--- `form::real` meets its contract. Assumes nothing.
-use Rattle.memory_forms.proofs.Forming.{forming}
-use Rattle.memory_forms.proofs.form.real.Goals as goal
-
-pub returns-then-bits-eq64 : goal.returns-then-bits-eq64
-returns-then-bits-eq64 c = search forming
-
-pub returns : goal.returns
-returns c = search forming

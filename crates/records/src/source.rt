@@ -1,0 +1,86 @@
+// The words of a file, by section, record and place.
+ghost use Rattle.std.specs.Prelude.{◌≡◌, ◌+◌, ◌^◌, ◌<◌, ◌≤◌};
+ghost use Rattle.definition.specs.Layout as Layout;
+ghost use Rattle.definition.specs.Layout.{count_at};
+
+use crate::words::{find_sections, word_at};
+use definition::layout::record_words;
+use std::marker::Model;
+
+// A file and where each of its sections stands. Contracts see the file's words.
+#[derive(Drop)]
+pub struct Source<'a> {
+    words: &'a [u32],
+    starts: [usize; 15],
+}
+
+impl<'a> Model for Source<'a> {
+    ghost use Rattle.std.specs.Prelude.{List, ℕ};
+    ghost use Rattle.records.specs.Starts.{StartsOf};
+
+    ghost Value = { List ℕ };
+
+    ghost view = { λ s. s.words.now };
+
+    ghost invariant = { λ s. StartsOf s.words.now s.starts };
+}
+
+impl<'a> Source<'a> {
+    pub fn new(words: &'a [u32]) -> Source<'a>
+        ensures { result ≡ words.now }
+    {
+        Source {
+            words,
+            starts: find_sections(words),
+        }
+    }
+
+    // All words of the file.
+    pub fn words(&self) -> &'a [u32]
+        ensures { result.now ≡ self.now }
+    {
+        self.words
+    }
+
+    // Where the last section ends.
+    pub fn end(&self) -> usize
+        ensures { result ≡ count_at self.now 14 }
+    {
+        self.starts[14]
+    }
+
+    // Where the count of a section stands; its records stand behind it.
+    pub fn start(&self, section: usize) -> usize
+        requires { section < 14 }
+        ensures is { result ≡ count_at self.now section }
+        ensures near { result ≤ 2 ^ 40 }
+    {
+        self.starts[section]
+    }
+
+    // How many records a section has.
+    pub fn count(&self, section: usize) -> u32
+        requires { section < 14 }
+        ensures { result ≡ Layout.count self.now section }
+    {
+        word_at(self.words, self.starts[section])
+    }
+
+    // Word `place` of record `first + j`: in 64 bits, so that a run need not be inside its section.
+    pub fn run_word(&self, section: usize, first: u32, j: u32, place: usize) -> u32
+        requires { (section < 14) × (place < 16) }
+        ensures { result ≡ Layout.word self.now section (first + j) place }
+    {
+        let at = self.starts[section];
+        let number = (first as usize) + (j as usize);
+        word_at(self.words, at + 1 + number * record_words(section) + place)
+    }
+
+    // Word `place` of a record.
+    pub fn word(&self, section: usize, number: u32, place: usize) -> u32
+        requires { (section < 14) × (place < 16) }
+        ensures { result ≡ Layout.word self.now section number place }
+    {
+        self.run_word(section, number, 0, place)
+    }
+}
