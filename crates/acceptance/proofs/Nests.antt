@@ -2,60 +2,71 @@
 use mathlib.Core.Path.{◌≡◌, refl, ap, ◌∙◌}
 use mathlib.Core.Bool.{Bool, true, false}
 use mathlib.Core.List.{List}
-use Prim.Native.Nat.{ℕ, suc, ◌+◌, ◌-◌, ◌≤◌, ◌<◌, max}
+use Prim.Native.Nat.{ℕ, zero, suc, ◌+◌, ◌-◌, ◌≤◌, ◌<◌, max}
 use native.Mathlib.Omega.{arith}
 use native.Mathlib.Numerals.{add-one}
 use lib.Dec.{ltb}
-use lib.ListN.{length, get_or, take, replicate, get_or-eq_default}
+use lib.ListN.{length, replicate, get_or-eq_default}
+use denote.Ref.{Bor}
+use Rattle.std.specs.List.{fold, range_with_len}
+use Rattle.std.specs.Ordering.{nat_cmp, max_by_ordering}
+use denote.Param.Members.{Mut}
+use Rattle.std.specs.Fn.{Called}
+use Rattle.std.specs.Iterator.{PicksByCmp}
+use Rattle.std.specs.Iterator.Adapters.{map_source, map_callee, map_steps}
+use Rattle.std.specs.declared.ops.Range.{Range}
+use Rattle.std.specs.declared.iter.Map.{Map}
+use Rattle.std.proofs.iter.Yields.{nat_range_steps}
+use Rattle.std.proofs.lemmas.Iterator.{YieldsList-from_map, YieldsList-from_range}
+use Rattle.std.proofs.lemmas.Iterator.Consumers.{reduce_from_yields_List}
+use Rattle.std.specs.Prelude.{Option, unwrap_or}
+use Rattle.std.proofs.lemmas.List.Folds.{max_of_map}
+use mir.Syntax.{w32}
+use mir.Val.{Fits}
 use borrow.Author.Rules.{rules}
 use borrow.Author.Tests.{ltb-true, ltb-false}
 use Rattle.definition.specs.Base.{on_link}
-use Rattle.definition.specs.Layout.{shapes, shape_fields, entries, count, word}
+use Rattle.definition.specs.Layout.{shapes, entries, count, word}
 use Rattle.definition.specs.Records.{shape_of, shape_at, entry_of, entry_at}
-use Rattle.definition.specs.Depth.{deepest, entry_depth_from, shape_depth_from, levels}
+use Rattle.definition.specs.Depth.{deepest, entry_depth_from, shape_depth_from, entry_depth, shape_depth, levels}
 use Rattle.laws.specs.Accepted.{Accepted}
-use Rattle.laws.specs.Depths.{deepest-more, deepest-most, deepest-same, entry-depth-from, shape-depth-from, entry-depth-most, shape-depth-most, few-entries, few-shapes, levels-most}
-use Rattle.acceptance.specs.declared.depths.Nesting.{Nesting}
-use Rattle.acceptance.specs.declared.depths.Nesting.TheVariants.{Entries, Shapes}
-use Rattle.acceptance.specs.declared.depths.Run.{Run}
-use Rattle.acceptance.specs.declared.depths.Run.TheVariants.{Records, Fields}
-use Rattle.records.specs.Tables.{table_of, Filled, table-length, table_at}
-use Rattle.acceptance.specs.Nesting.{depth_in, Shallow, depth_at, count_of, depth_of, depth_from}
-use Rattle.records.proofs.Filling.{filled-part, zeroed-again}
+use Rattle.laws.specs.Depths.{deepest-more, entry-depth-from, shape-depth-from, entry-depth-most, shape-depth-most, few-entries, few-shapes, levels-most}
+use Rattle.records.specs.Tables.{table_of, table-length, table_at}
+use Rattle.acceptance.specs.Nesting.{depth_in, field_depth, Shallow, FromLower, GreatestOf}
 use Rattle.records.proofs.Listed.{in-run, past}
 use Rattle.records.proofs.Links.{no-link, a-link}
 
--- ---- what a record of a run leads to
-module _ (f : List ℕ) (run : Run) (depths : List ℕ) (k : ℕ) {r : ℕ} where
-  pub by-records : run ≡ Records → r ≡ get_or depths k 0 → r ≡ depth_at f run depths k
-  unfolding depth_at
-  by-records e h = rw e h
+-- ---- the greatest so far
+pub record Greatest (d : ℕ → ℕ) (n most : ℕ) : Type 0 where
+  pub is : most ≡ deepest d 0 n
 
-  pub by-fields : run ≡ Fields → {s : ℕ} → s ≡ word f shape_fields k 1 → r ≡ get_or depths s 0 → r ≡ depth_at f run depths k
-  unfolding depth_at
-  by-fields e q h = rw (e, ← q) h
-
--- ---- the greatest of a run
-pub record Greatest (d : ℕ → ℕ) (first n most : ℕ) : Type 0 where
-  pub is : most ≡ deepest d first n
-
-module _ {d : ℕ → ℕ} {first : ℕ} where
-  pub none-met : Greatest d first 0 0
+module _ {d : ℕ → ℕ} where
+  pub none-met : Greatest d 0 0
   unfolding deepest
   none-met = record { is = refl }
 
-  pub one-met : {n most : ℕ} → Greatest d first n most → {v r : ℕ} → v ≡ d (first + n) → r ≡ max most v → Greatest d first (n + 1) r
-  one-met {n} {most} i {v} {r} e h = record { is = rw (add-one, ← deepest-more d first n, ← e, ← i.is) h }
+  pub one-met : {n most : ℕ} → Greatest d n most → {v r : ℕ} → v ≡ d n → r ≡ max most v → Greatest d (n + 1) r
+  one-met {n} {most} i {v} {r} e h = let z : 0 + n ≡ n = omega arith in record { is = rw (add-one, ← deepest-more d 0 n, z, ← e, ← i.is) h }
 
-  pub all-met : {n most : ℕ} → Greatest d first n most → (m : ℕ) → n ≤ m → m ≤ n → most ≡ deepest d first m
-  all-met {n} i m h l = let e : m ≡ n = omega arith in rw e i.is
+-- ---- the greatest of a run, by the library's `max`
+max-in-range : (d : ℕ → ℕ) (first k n most : ℕ) → fold (λ a x. max a (d (first + x))) most (range_with_len k n) ≡ max most (deepest d (first + k) n)
+unfolding deepest
+max-in-range d first k zero most = omega arith
+max-in-range d first k (suc n) most =
+    let e : first + (k + 1) ≡ suc (first + k) = omega arith in
+    max-in-range d first (k + 1) n (max most (d (first + k))) ∙ rw e (omega arith)
 
--- ---- a depth fits
-pub run_small : (f : List ℕ) (run : Run) (depths : List ℕ) (first many : ℕ) {r : ℕ} → Shallow depths → r ≡ deepest (depth_at f run depths) first many → r ≤ 8192
-unfolding depth_at
-run_small f Records depths first many s e = rw e (deepest-most (depth_in depths) first many 8192 (λ n l h. s.most n))
-run_small f Fields depths first many s e =
-    rw e (deepest-most (λ k. depth_in depths (word f shape_fields k 1)) first many 8192 (λ n l h. s.most (word f shape_fields n 1)))
+module _ {F : Type 0} {g : Mut F (ℕ × Unit {0}) ℕ} (d : ℕ → ℕ) (first n : ℕ) (s : Map (Range ℕ) F) (o : Option ℕ) {f : F} {m : ℕ} where
+  pub deepest-in-run : PicksByCmp (map_steps nat_range_steps g) max_by_ordering nat_cmp s o → map_source s ≡ record { start = 0; end = n } → map_callee s ≡ f
+      → ((x r : ℕ) (q : F) → Called g f (x, tt) r q → (q ≡ f) × (r ≡ d (first + x))) → m ≡ unwrap_or o 0 → m + 1 ≡ suc (deepest d first n)
+  deepest-in-run ran e c k h =
+      let z : first + 0 ≡ first = omega arith in
+      let y = YieldsList-from_map g (λ j. d (first + j)) (YieldsList-from_range 0 n n e (omega arith)) c k in
+      let most : unwrap_or o 0 ≡ fold (λ a x. max a (d (first + x))) 0 (range_with_len 0 n) = rw (reduce_from_yields_List (λ p z. max_by_ordering (nat_cmp p z) p z) s o ran y) (max_of_map (λ j. d (first + j)) (range_with_len 0 n)) in
+      rw (h, most, max-in-range d first 0 n 0, z) (omega arith)
+
+pub one_fits : (depths : List ℕ) → Shallow depths → (n : ℕ) → {r : ℕ} → r ≡ depth_in depths n → Fits w32 (r + 1)
+one_fits depths s n e = record { fits = omega (arith, s.most n, e) }
 
 -- ---- a linked entry
 pub no_inner : (below : ℕ → ℕ) (l : ℕ) → l ≡ 0 → 1 ≡ suc (on_link l 0 below)
@@ -66,12 +77,12 @@ an-inner below l p e = e ∙ ap suc (a-link 0 below l p refl)
 
 -- ---- one entry
 module _ (f : List ℕ) (e : ℕ) (depths : List ℕ) {kind a b : ℕ} (k : kind ≡ word f entries e 0) (h : a ≡ word f entries e 2) (l : b ≡ word f entries e 3) {r : ℕ} where
-  pub entry-array : kind ≡ 2 → r ≡ suc (deepest (depth_at f Records depths) a b) → r ≡ entry_depth_from (depth_in depths) (entry_at f e)
-  unfolding entry_at entry_of entry_depth_from depth_at
+  pub entry-array : kind ≡ 2 → r ≡ suc (deepest (depth_in depths) a b) → r ≡ entry_depth_from (depth_in depths) (entry_at f e)
+  unfolding entry_at entry_of entry_depth_from
   entry-array q p = rw (← k, ← h, ← l, q) p
 
-  pub entry-structure : kind ≡ 3 → r ≡ suc (deepest (depth_at f Records depths) a b) → r ≡ entry_depth_from (depth_in depths) (entry_at f e)
-  unfolding entry_at entry_of entry_depth_from depth_at
+  pub entry-structure : kind ≡ 3 → r ≡ suc (deepest (depth_in depths) a b) → r ≡ entry_depth_from (depth_in depths) (entry_at f e)
+  unfolding entry_at entry_of entry_depth_from
   entry-structure q p = rw (← k, ← h, ← l, q) p
 
   pub entry-repeat : kind ≡ 6 → r ≡ suc (on_link b 0 (depth_in depths)) → r ≡ entry_depth_from (depth_in depths) (entry_at f e)
@@ -98,8 +109,8 @@ entry_other f e below k p q r = rw (← k) (flat-entry below _ (word f entries e
 
 -- ---- one shape
 module _ (f : List ℕ) (n : ℕ) (depths : List ℕ) {kind a : ℕ} (k : kind ≡ word f shapes n 0) (h : a ≡ word f shapes n 1) {r : ℕ} where
-  pub shape-structure : kind ≡ 11 → {b : ℕ} → b ≡ word f shapes n 2 → r ≡ suc (deepest (depth_at f Fields depths) a b) → r ≡ shape_depth_from f (depth_in depths) (shape_at f n)
-  unfolding shape_at shape_of shape_depth_from depth_at
+  pub shape-structure : kind ≡ 11 → {b : ℕ} → b ≡ word f shapes n 2 → r ≡ suc (deepest (field_depth f depths) a b) → r ≡ shape_depth_from f (depth_in depths) (shape_at f n)
+  unfolding shape_at shape_of shape_depth_from
   shape-structure q l p = rw (← k, ← h, ← l, q) p
 
   pub shape-array : kind ≡ 12 → r ≡ suc (depth_in depths a) → r ≡ shape_depth_from f (depth_in depths) (shape_at f n)
@@ -123,67 +134,65 @@ pub shape-other : (f : List ℕ) (n : ℕ) (below : ℕ → ℕ) {kind : ℕ} �
 unfolding shape_at
 shape-other f n below k p q = rw (← k) (flat-shape f below _ (word f shapes n 1) (word f shapes n 2) (word f shapes n 3) (word f shapes n 4) p q)
 
--- ---- entries or shapes
-module _ (f : List ℕ) (nesting : Nesting) {r : ℕ} where
-  pub count_entries : nesting ≡ Entries → r ≡ count f entries → r ≡ count_of f nesting
-  unfolding count_of
-  count_entries e h = rw e h
-
-  pub count-shapes : nesting ≡ Shapes → r ≡ count f shapes → r ≡ count_of f nesting
-  unfolding count_of
-  count-shapes e h = rw e h
-
-  pub depth-entry : (depths : List ℕ) (n : ℕ) → nesting ≡ Entries → r ≡ entry_depth_from (depth_in depths) (entry_at f n) → r ≡ depth_from f nesting (depth_in depths) n
-  unfolding depth_from
-  depth-entry depths n e h = rw e h
-
-  pub depth-shape : (depths : List ℕ) (n : ℕ) → nesting ≡ Shapes → r ≡ shape_depth_from f (depth_in depths) (shape_at f n) → r ≡ depth_from f nesting (depth_in depths) n
-  unfolding depth_from
-  depth-shape depths n e h = rw e h
-
 -- ---- a table of the lower depths
-small-depth : {f : List ℕ} → Accepted f → (nesting : Nesting) (n : ℕ) → n < count_of f nesting → depth_of f nesting n ≤ 8192
-unfolding count_of depth_of
-small-depth {f} a Entries n h = omega (arith, entry-depth-most f a n h, few-entries f a)
-small-depth {f} a Shapes n h = omega (arith, shape-depth-most f a n h, few-shapes f a)
+module _ (d : ℕ → ℕ) (n : ℕ) (s : List ℕ) (e : s ≡ table_of d n) where
+  lower-at : (j : ℕ) → j < n → depth_in s j ≡ d j
+  lower-at j l = rw e (table_at d n j 0 l)
 
-from-lower : {f : List ℕ} → Accepted f → (nesting : Nesting) (below : ℕ → ℕ) (n : ℕ) → n < count_of f nesting
-    → ((i : ℕ) → i < n → below i ≡ depth_of f nesting i) → depth_from f nesting below n ≡ depth_of f nesting n
-unfolding count_of depth_of depth_from
-from-lower {f} a Entries below n h q = entry-depth-from f a below n h q
-from-lower {f} a Shapes below n h q = shape-depth-from f a below n h q
-
-module _ {f : List ℕ} (a : Accepted f) (nesting : Nesting) {n : ℕ} {lent words : List ℕ} (i : Filled (depth_of f nesting) n lent words) where
-  pub shallow-part : n ≤ count_of f nesting → Shallow (take n words)
-  shallow-part l = rw (filled-part i) (record { most = λ k. go k (ltb k n) refl })
+  shallow-table : ((k : ℕ) → k < n → d k ≤ 8192) → Shallow s
+  shallow-table h = rw e (record { most = λ k. go k (ltb k n) refl })
     where
-      go : (k : ℕ) (b : Bool) → ltb k n ≡ b → depth_in (table_of (depth_of f nesting) n) k ≤ 8192
-      go k true q =
-          let h = ltb-true k n q in
-          let m : k < count_of f nesting = omega arith in
-          rw (table_at (depth_of f nesting) n k 0 h) (small-depth a nesting k m)
+      go : (k : ℕ) (b : Bool) → ltb k n ≡ b → depth_in (table_of d n) k ≤ 8192
+      go k true q = let l = ltb-true k n q in rw (table_at d n k 0 l) (h k l)
       go k false q =
-          let h : length (table_of (depth_of f nesting) n) ≤ k = omega (arith, ltb-false k n q, table-length (depth_of f nesting) n) in
-          rw (get_or-eq_default (table_of (depth_of f nesting) n) 0 h) (omega arith)
+          let l : length (table_of d n) ≤ k = omega (arith, ltb-false k n q, table-length d n) in
+          rw (get_or-eq_default (table_of d n) 0 l) (omega arith)
 
-  pub depth-next : n < count_of f nesting → {d : ℕ} → d ≡ depth_from f nesting (depth_in (take n words)) n → d ≡ depth_of f nesting n
-  depth-next h e = e ∙ rw (filled-part i) (from-lower a nesting (depth_in (table_of (depth_of f nesting) n)) n h (λ j l. table_at (depth_of f nesting) n j 0 l))
+module _ {f : List ℕ} (a : Accepted f) {takes : Bor (List ℕ) → ℕ → Type 0} {gives : Bor (List ℕ) → ℕ → ℕ → Type 0} {many : ℕ}
+    (may : (s : Bor (List ℕ)) (n : ℕ) → Shallow s.now → takes s n) where
+  module _ (q : many ≡ count f entries) (found : (s : Bor (List ℕ)) (n r : ℕ) → gives s n r → r ≡ entry_depth_from (depth_in s.now) (entry_at f n)) where
+    entries-from : FromLower takes gives (entry_depth f) many
+    entries-from =
+        record {
+          may = λ s n h e. may s n (shallow-table _ n s.now e (λ k l. let i : k < count f entries = omega arith in omega (arith, entry-depth-most f a k i, few-entries f a)));
+          found = λ s n r h e p. found s n r p ∙ entry-depth-from f a (depth_in s.now) n (omega arith) (lower-at _ n s.now e);
+        }
 
-  pub greatest-is : {r : ℕ} → r ≡ deepest (depth_at f Records (take n words)) 0 n → n ≡ count_of f nesting → r ≡ deepest (depth_of f nesting) 0 (count_of f nesting)
-  unfolding depth_at
-  greatest-is e h =
-      rw (← h)
-      (e ∙ rw (filled-part i) (deepest-same (depth_in (table_of (depth_of f nesting) n)) (depth_of f nesting) 0 n (λ j l b. table_at (depth_of f nesting) n j 0 (omega arith))))
+    pub entries-found : (d : ℕ → ℕ) × FromLower takes gives d many
+    entries-found = (entry_depth f, entries-from)
+
+    pub deepest-entry : {r : ℕ} → GreatestOf takes gives many r → r ≡ deepest (entry_depth f) 0 (count f entries)
+    deepest-entry g = rw (← q) (g.is (entry_depth f) entries-from)
+
+  module _ (q : many ≡ count f shapes) (found : (s : Bor (List ℕ)) (n r : ℕ) → gives s n r → r ≡ shape_depth_from f (depth_in s.now) (shape_at f n)) where
+    shapes-from : FromLower takes gives (shape_depth f) many
+    shapes-from =
+        record {
+          may = λ s n h e. may s n (shallow-table _ n s.now e (λ k l. let i : k < count f shapes = omega arith in omega (arith, shape-depth-most f a k i, few-shapes f a)));
+          found = λ s n r h e p. found s n r p ∙ shape-depth-from f a (depth_in s.now) n (omega arith) (lower-at _ n s.now e);
+        }
+
+    pub shapes-found : (d : ℕ → ℕ) × FromLower takes gives d many
+    shapes-found = (shape_depth f, shapes-from)
+
+    pub deepest-shape : {r : ℕ} → GreatestOf takes gives many r → r ≡ deepest (shape_depth f) 0 (count f shapes)
+    deepest-shape g = rw (← q) (g.is (shape_depth f) shapes-from)
 
 -- ---- both together
-module _ (f : List ℕ) {a b : ℕ} (e : a ≡ deepest (depth_of f Entries) 0 (count_of f Entries)) (h : b ≡ deepest (depth_of f Shapes) 0 (count_of f Shapes)) where
+module _ (f : List ℕ) {a b : ℕ} (e : a ≡ deepest (entry_depth f) 0 (count f entries)) (h : b ≡ deepest (shape_depth f) 0 (count f shapes)) where
   pub levels-are : a + b + 1 ≡ levels f
-  unfolding levels depth_of count_of
+  unfolding levels
   levels-are = rw (e, h) (omega arith)
 
-  pub levels-fit : Accepted f → a + b ≤ 9216
-  unfolding levels depth_of count_of
+  levels-fit : Accepted f → a + b ≤ 9216
+  unfolding levels
   levels-fit k = omega (arith, levels-are, levels-most f k)
+
+  pub sum_fits : Accepted f → Fits w32 (a + b)
+  sum_fits k = record { fits = omega (arith, levels-fit k) }
+
+  pub levels_fit : Accepted f → Fits w32 (a + b + 1)
+  levels_fit k = record { fits = omega (arith, levels-fit k) }
 
 pub still-room : {k : ℕ} {lent words : List ℕ} → words ≡ lent → k ≤ length lent → k ≤ length words
 still-room e h = rw e h
@@ -192,6 +201,6 @@ pub still-zero : {lent words : List ℕ} → words ≡ lent → lent ≡ replica
 still-zero e h = rw e h
 
 pub ruleset nests =
-    (rules, by-records, by-fields, none-met, one-met, all-met, no_inner, an-inner, entry-array, entry-structure, entry-repeat, entry_other, shape-structure, shape-array, shape-other, count_entries, count-shapes, depth-entry, depth-shape)
+    (rules, one_fits, no_inner, an-inner, entry-array, entry-structure, entry-repeat, entry_other, shape-structure, shape-array, shape-other)
 
-pub ruleset leveling = (rules, greatest-is, zeroed-again, levels-are, still-room, still-zero)
+pub ruleset leveling = (rules, entries-found, deepest-entry, shapes-found, deepest-shape, levels-are, sum_fits, levels_fit, still-room, still-zero)

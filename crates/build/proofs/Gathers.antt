@@ -23,12 +23,12 @@ use Rattle.tree.specs.Words.{Stand}
 use Rattle.tree.specs.Node.{head_words}
 use Rattle.tree.proofs.Stands.{stand-append, stand-kept}
 use Rattle.tree.proofs.Standing.{headed-there}
-use Rattle.build.specs.declared.built.Built.{Built}
-use Rattle.build.specs.declared.built.Built.TheVariants.{Ends}
-use Rattle.build.specs.Built.{Gives, Memory, Builds}
+use Rattle.build.specs.declared.built.Unbuilt.{Unbuilt}
+use Rattle.std.specs.Prelude.{Err, Ok}
+use Rattle.build.specs.Built.{Built, Gives, Memory, Builds}
 use Rattle.build.specs.Parts.{is_listed, listed_names, field_ask, BuildsField}
 use Rattle.build.specs.Fields.{HeadsStructure}
-use Rattle.build.proofs.Peeks.{then_peek, peek-then, then-assoc, NoEnd, gives-fails, gives-ends, kept-before}
+use Rattle.build.proofs.Peeks.{then_peek, peek-then, then-assoc, gives-err, gives-ends, kept-before}
 use Rattle.build.proofs.leaves.Laws.{paste-kept}
 
 -- ---- tests
@@ -88,20 +88,20 @@ module _ (f : List ℕ) (place : Place) where
   next_field M name names made size = peek-more M made size _ (fields_by f (default_of f) place names)
 
 -- ---- the names that are left
-module _ (f : List ℕ) (section first : ℕ) {left : ℕ} (h : 0 < left) where
-  spent : left ≡ suc (left - 1)
+module _ (f : List ℕ) (section k upto : ℕ) (h : k < upto) where
+  spent : upto - k ≡ suc (upto - (k + 1))
   spent = omega arith
 
-  one_more : suc first ≡ first + 1
+  one_more : suc k ≡ k + 1
   one_more = omega arith
 
-  names-skip : is_listed f section first ≡ false → listed_names f section first left ≡ listed_names f section (first + 1) (left - 1)
+  names-skip : is_listed f section k ≡ false → listed_names f section k (upto - k) ≡ listed_names f section (k + 1) (upto - (k + 1))
   unfolding listed_names
-  names-skip e = ap (listed_names f section first) spent ∙ rw (e, one_more)
+  names-skip e = ap (listed_names f section k) spent ∙ rw (e, one_more)
 
-  names-next : is_listed f section first ≡ true → listed_names f section first left ≡ word f section first 0 ∷ listed_names f section (first + 1) (left - 1)
+  names-next : is_listed f section k ≡ true → listed_names f section k (upto - k) ≡ word f section k 0 ∷ listed_names f section (k + 1) (upto - (k + 1))
   unfolding listed_names
-  names-next e = ap (listed_names f section first) spent ∙ rw (e, one_more)
+  names-next e = ap (listed_names f section k) spent ∙ rw (e, one_more)
 
 -- ---- what a memo gives so far: trees of so many nodes stand behind the head's place, and the whole is what is left, behind them
 pub record Gathering (f : List ℕ) (place : Place) (whole : List ℕ) (M : Memo) (at : ℕ) (names : List ℕ) (made to : ℕ) (room : List ℕ) : Type 0 where
@@ -111,15 +111,15 @@ pub record Gathering (f : List ℕ) (place : Place) (whole : List ℕ) (M : Memo
   pub stands : Stand room (at + 6) (flatten_all trees) to
   pub comes : peek M (left_of f place whole 0 0) ≡ then_peek (peek M (left_of f place names made (nodes_in trees))) (behind trees)
 
-pub record SoFar (f known store : List ℕ) (place : Place) (section first total at : ℕ) (old : List ℕ) (k left made to : ℕ) (room : List ℕ) : Type 0 where
-  pub runs : k + left ≡ first + total
-  pub few : made + left ≤ total
+pub record SoFar (f known store : List ℕ) (place : Place) (section first total at : ℕ) (old : List ℕ) (k made to : ℕ) (room : List ℕ) : Type 0 where
+  pub runs : k ≤ first + total
+  pub few : first + made ≤ k
   pub after : at + 6 ≤ to
   pub within : to ≤ at + tree_words
   pub fits : at + 6 ≤ length old
   pub long : length room ≡ length old
   pub kept : take at room ≡ take at old
-  pub gives : (M : Memo) → Memory f known store M → Gathering f place (listed_names f section first total) M at (listed_names f section k left) made to room
+  pub gives : (M : Memo) → Memory f known store M → Gathering f place (listed_names f section first total) M at (listed_names f section k (first + total - k)) made to room
 
 pub no-trees : (room : List ℕ) (at : ℕ) → at + 6 ≤ length room → Stand room (at + 6) (flatten_all tnil) (at + 6)
 unfolding flatten
@@ -164,9 +164,9 @@ unfolding listed_names fields_by
 peek-left M f place section k made size = peek-give M tnil
 
 -- a structure's words up to an end
-pub structure-gives : (at : ℕ) (ts : Trees) (e : ℕ) (new : List ℕ) → Stand new at (flatten (headed 14 ts)) e → Gives flatten (got (ok (structure_tree ts))) at (Ends e) new
+pub structure-gives : (at : ℕ) (ts : Trees) (e : ℕ) (new : List ℕ) → Stand new at (flatten (headed 14 ts)) e → Gives flatten (got (ok (structure_tree ts))) at (Ok e) new
 unfolding structure_tree
-structure-gives at ts e new x = record { says = ap Ends (sym x.long); stands = rw x.long x }
+structure-gives at ts e new x = record { says = ap Ok (sym x.long); stands = rw x.long x }
 
 module _ (f known store : List ℕ) (place : Place) (section first total at : ℕ) (old : List ℕ) where
   -- the whole
@@ -179,21 +179,26 @@ module _ (f known store : List ℕ) (place : Place) (section first total at : �
   start : (M : Memo) → peek M (left_of f place (listed_names f section first total) 0 0) ≡ then_peek (peek M (left_of f place (listed_names f section first total) 0 (nodes_in tnil))) (behind tnil)
   start M = rw nodes-nil (sym (behind-nothing (peek M (left_of f place (listed_names f section first total) 0 0))))
 
-  pub so-far-none : at + 6 ≤ length old → SoFar f known store place section first total at old first total 0 (at + 6) old
+  begins : (M : Memo) → peek M (left_of f place (listed_names f section first total) 0 0) ≡ then_peek (peek M (left_of f place (listed_names f section first (first + total - first)) 0 (nodes_in tnil))) (behind tnil)
+  begins M =
+      let e : first + total - first ≡ total = omega arith in
+      rw e (start M)
+
+  pub so-far-none : at + 6 ≤ length old → SoFar f known store place section first total at old first 0 (at + 6) old
   so-far-none h =
       record {
-        runs = refl;
+        runs = omega arith;
         few = omega arith;
         after = omega arith;
         within = omega arith;
         fits = h;
         long = refl;
         kept = refl;
-        gives = λ M m. record { trees = tnil; counts = many-nil; sizes = omega (arith, nodes-nil); stands = no-trees old at h; comes = start M };
+        gives = λ M m. record { trees = tnil; counts = many-nil; sizes = omega (arith, nodes-nil); stands = no-trees old at h; comes = begins M };
       }
 
-  module _ {k left made to : ℕ} {room : List ℕ} (x : SoFar f known store place section first total at old k left made to room) where
-    pub so_far_skip : {b : Bool} → b ≡ is_listed f section k → b ≡ false → 0 < left → SoFar f known store place section first total at old (k + 1) (left - 1) made to room
+  module _ {k made to : ℕ} {room : List ℕ} (x : SoFar f known store place section first total at old k made to room) where
+    pub so_far_skip : {b : Bool} → b ≡ is_listed f section k → b ≡ false → k < first + total → SoFar f known store place section first total at old (k + 1) made to room
     so_far_skip i e h =
         record {
           runs = omega (arith, x.runs);
@@ -209,36 +214,36 @@ module _ (f known store : List ℕ) (place : Place) (section first total at : �
                 counts = y.counts;
                 sizes = y.sizes;
                 stands = y.stands;
-                comes = rw (names-skip f section k h (sym i ∙ e)) at y.comes;
+                comes = rw (names-skip f section k (first + total) h (sym i ∙ e)) at y.comes;
               };
         }
 
-    pub so-far-all : left ≤ 0 → {r : Built} {new : List ℕ} → HeadsStructure at made to room r new → Builds f known store flatten all at old r new
+    pub so-far-all : k ≡ first + total → {r : Built} {new : List ℕ} → HeadsStructure at made to room r new → Builds f known store flatten all at old r new
     so-far-all h {r} {new} z = record { gives = go; kept = ap (take at) z.is ∙ paste-kept room at (head_words 14 made) 6 (omega (arith, x.fits, x.long)) ∙ x.kept }
       where
-        none_left : left ≡ 0
+        none_left : first + total - k ≡ 0
         none_left = omega arith
 
         go : (M : Memo) → Memory f known store M → Gives flatten (peek M all) at r new
         go M m =
             let y = x.gives M m in
-            let p : peek M (left_of f place (listed_names f section k left) made (nodes_in y.trees)) ≡ got (ok tnil) =
+            let p : peek M (left_of f place (listed_names f section k (first + total - k)) made (nodes_in y.trees)) ≡ got (ok tnil) =
             ap (λ (n : ℕ). peek M (left_of f place (listed_names f section k n) made (nodes_in y.trees))) none_left ∙ peek-left M f place section k made (nodes_in y.trees) in
             let q : peek M (left_of f place (listed_names f section first total) 0 0) ≡ got (ok y.trees) = y.comes ∙ ap (λ w. then_peek w (behind y.trees)) p ∙ ap (λ (ts : Trees). got (ok ts)) (join-nil y.trees) in
             let s : peek M all ≡ got (ok (structure_tree y.trees)) = peek-all M ∙ ap (λ w. then_peek w (λ ts. got (ok (structure_tree ts)))) q in
             let o : new ≡ paste room at (head_words 14 (many y.trees)) 6 = z.is ∙ ap (λ (j : ℕ). paste room at (head_words 14 j) 6) (sym y.counts) in
             rw (s, z.says) (structure-gives at y.trees to new (headed-there room at 14 y.trees to y.stands o))
 
-    module _ {b : Bool} (i : b ≡ is_listed f section k) (e : b ≡ true) (h : 0 < left) {name : ℕ} (w : name ≡ word f section k 0) {r : Built} {new : List ℕ}
-        (z : BuildsField f known store place name at to room r new) where
-      next : (M : Memo) (size : ℕ) → peek M (left_of f place (listed_names f section k left) made size)
-          ≡ then_peek (peek M (field_ask f place name size)) (λ ts. then_peek (peek M (left_of f place (listed_names f section (k + 1) (left - 1)) (made + many ts) (size + nodes_in ts))) (behind ts))
+    module _ {b : Bool} (i : b ≡ is_listed f section k) (e : b ≡ true) (h : k < first + total) {name : ℕ} (w : name ≡ word f section k 0) where
+      next : (M : Memo) (size : ℕ) → peek M (left_of f place (listed_names f section k (first + total - k)) made size)
+          ≡ then_peek (peek M (field_ask f place name size)) (λ ts. then_peek (peek M (left_of f place (listed_names f section (k + 1) (first + total - (k + 1))) (made + many ts) (size + nodes_in ts))) (behind ts))
       next M size =
-          ap (λ (l : List ℕ). peek M (left_of f place l made size)) (names-next f section k h (sym i ∙ e) ∙ ap (λ (n : ℕ). n ∷ listed_names f section (k + 1) (left - 1)) (sym w))
-          ∙ next_field f place M name (listed_names f section (k + 1) (left - 1)) made size
+          ap (λ (l : List ℕ). peek M (left_of f place l made size)) (names-next f section k (first + total) h (sym i ∙ e) ∙ ap (λ (n : ℕ). n ∷ listed_names f section (k + 1) (first + total - (k + 1))) (sym w))
+          ∙ next_field f place M name (listed_names f section (k + 1) (first + total - (k + 1))) made size
 
-      pub so-far-fails : NoEnd r → Builds f known store flatten all at old r new
-      so-far-fails n = record { gives = go; kept = kept-before at to new room (omega (arith, x.after)) z.kept ∙ x.kept }
+      -- what `?` hands on
+      pub so-far-fails : {u : Unbuilt} {new : List ℕ} → BuildsField f known store place name at to room (Err u) new → {r : Built} → r ≡ Err u → Builds f known store flatten all at old r new
+      so-far-fails {u} {new} z {r} q = record { gives = go; kept = kept-before at to new room (omega (arith, x.after)) z.kept ∙ x.kept }
         where
           go : (M : Memo) → Memory f known store M → Gives flatten (peek M all) at r new
           go M m =
@@ -246,10 +251,10 @@ module _ (f known store : List ℕ) (place : Place) (section first total at : �
               let p = peek-all M ∙ ap (λ w. then_peek w (λ ts. got (ok (structure_tree ts)))) (y.comes ∙ ap (λ w. then_peek w (behind y.trees)) (next M (nodes_in y.trees)))
               ∙ ap (λ w. then_peek w (λ ts. got (ok (structure_tree ts)))) (then-assoc (peek M (field_ask f place name (nodes_in y.trees))) _ (behind y.trees))
               ∙ then-assoc (peek M (field_ask f place name (nodes_in y.trees))) _ (λ ts. got (ok (structure_tree ts))) in
-              rw p (gives-fails flatten at new n (peek M (field_ask f place name (nodes_in y.trees))) (z.gives (nodes_in y.trees) y.sizes M m) _)
+              rw p (gives-err flatten at new (peek M (field_ask f place name (nodes_in y.trees))) (z.gives (nodes_in y.trees) y.sizes M m) _ q)
 
-      pub so_far_more : {end : ℕ} → r ≡ Ends end → length new ≡ length room → SoFar f known store place section first total at old (k + 1) (left - 1) (made + 1) end new
-      so_far_more {end} q l =
+      pub so_far_more : {r : Built} {new : List ℕ} → BuildsField f known store place name at to room r new → {end : ℕ} → r ≡ Ok end → length new ≡ length room → SoFar f known store place section first total at old (k + 1) (made + 1) end new
+      so_far_more {r} {new} z {end} q l =
           let d = z.ends end q in
           record {
             runs = omega (arith, x.runs);
@@ -262,21 +267,21 @@ module _ (f known store : List ℕ) (place : Place) (section first total at : �
             gives = go;
           }
         where
-          go : (M : Memo) → Memory f known store M → Gathering f place (listed_names f section first total) M at (listed_names f section (k + 1) (left - 1)) (made + 1) end new
+          go : (M : Memo) → Memory f known store M → Gathering f place (listed_names f section first total) M at (listed_names f section (k + 1) (first + total - (k + 1))) (made + 1) end new
           go M m =
               let y = x.gives M m in
               let v = gives-ends (peek M (field_ask f place name (nodes_in y.trees))) (z.gives (nodes_in y.trees) y.sizes M m) q in
               let c : many v.value ≡ 1 = field-one M f place name (nodes_in y.trees) v.value v.is in
               let s = nodes_in-join y.trees v.value in
               let u : made + many v.value ≡ made + 1 = ap (λ (j : ℕ). made + j) c in
-              let o : peek M (left_of f place (listed_names f section k left) made (nodes_in y.trees))
-              ≡ then_peek (peek M (left_of f place (listed_names f section (k + 1) (left - 1)) (made + 1) (nodes_in (join y.trees v.value)))) (behind v.value) =
-              next M (nodes_in y.trees) ∙ ap (λ w. then_peek w (λ ts. then_peek (peek M (left_of f place (listed_names f section (k + 1) (left - 1)) (made + many ts) (nodes_in y.trees + nodes_in ts))) (behind ts))) v.is
+              let o : peek M (left_of f place (listed_names f section k (first + total - k)) made (nodes_in y.trees))
+              ≡ then_peek (peek M (left_of f place (listed_names f section (k + 1) (first + total - (k + 1))) (made + 1) (nodes_in (join y.trees v.value)))) (behind v.value) =
+              next M (nodes_in y.trees) ∙ ap (λ w. then_peek w (λ ts. then_peek (peek M (left_of f place (listed_names f section (k + 1) (first + total - (k + 1))) (made + many ts) (nodes_in y.trees + nodes_in ts))) (behind ts))) v.is
               ∙ rw (u, s) in
               record {
                 trees = join y.trees v.value;
                 counts = many-join y.trees v.value ∙ omega (arith, y.counts, c);
                 sizes = omega (arith, v.ends, y.sizes, s, flatten_all-length v.value);
                 stands = rw (flatten_all-join y.trees v.value) (stand-append (stand-kept y.stands new to l (omega arith) z.kept) v.stands);
-                comes = y.comes ∙ ap (λ w. then_peek w (behind y.trees)) o ∙ behind-both y.trees v.value (peek M (left_of f place (listed_names f section (k + 1) (left - 1)) (made + 1) (nodes_in (join y.trees v.value))));
+                comes = y.comes ∙ ap (λ w. then_peek w (behind y.trees)) o ∙ behind-both y.trees v.value (peek M (left_of f place (listed_names f section (k + 1) (first + total - (k + 1))) (made + 1) (nodes_in (join y.trees v.value))));
               }

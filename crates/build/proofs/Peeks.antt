@@ -10,9 +10,10 @@ use Rattle.definition.specs.Resolve.{Memo}
 use Rattle.definition.specs.Peek.{Peek, got, wants, peek}
 use Rattle.laws.specs.Peeking.{on_got, peek-bind}
 use Rattle.tree.specs.Words.{Stand}
-use Rattle.build.specs.declared.built.Built.{Built}
-use Rattle.build.specs.declared.built.Built.TheVariants.{Ends, None, TooLarge, Wanted}
-use Rattle.build.specs.Built.{answer_of, Gives, Memory, Builds}
+use Rattle.build.specs.declared.built.Unbuilt.{Unbuilt}
+use Rattle.build.specs.declared.built.Unbuilt.TheVariants as unbuilt
+use Rattle.std.specs.Prelude.{Err, Ok}
+use Rattle.build.specs.Built.{Built, answer_of, Gives, Memory, Builds}
 
 -- ---- only a value goes on
 abbrev pub then_peek : {A B : Type 0} → Peek (Result A) → (A → Peek (Result B)) → Peek (Result B)
@@ -40,10 +41,13 @@ then-assoc (wants d) g h = refl
 
 -- ---- an answer that is no end
 abbrev pub NoEnd : Built → Type 0
-NoEnd r = (end : ℕ) → r ≡ Ends end → ⊥
+NoEnd r = (end : ℕ) → r ≡ Ok end → ⊥
 
-pub ends-not : {X : Type 0} (e : ℕ) → NoEnd (Ends e) → X
+pub ends-not : {X : Type 0} (e : ℕ) → NoEnd (Ok e) → X
 ends-not e k = absurd (k e refl)
+
+pub err-no-end : {r : Built} {u : Unbuilt} → r ≡ Err u → NoEnd r
+err-no-end e end q = let z : ◌≡◌ {A = ℕ} 0 1 = cc in absurd (omega arith)
 
 module _ {A B : Type 0} {words : A → List ℕ} {at : ℕ} {r : Built} {new : List ℕ} (vords : B → List ℕ) (to : ℕ) (other : List ℕ) (n : NoEnd r) where
   pub gives-fails : (p : Peek (Result A)) → Gives words p at r new → (g : A → Peek (Result B)) → Gives vords (then_peek p g) to r other
@@ -51,6 +55,11 @@ module _ {A B : Type 0} {words : A → List ℕ} {at : ℕ} {r : Built} {new : L
   gives-fails (got none) h g = record { says = h.says; stands = tt }
   gives-fails (got large) h g = record { says = h.says; stands = tt }
   gives-fails (wants d) h g = record { says = h.says; stands = tt }
+
+-- what `?` hands on
+pub gives-err : {A B : Type 0} {words : A → List ℕ} {at : ℕ} {u : Unbuilt} {new : List ℕ} (vords : B → List ℕ) (to : ℕ) (other : List ℕ) (p : Peek (Result A)) → Gives words p at (Err u) new
+    → (g : A → Peek (Result B)) → {r : Built} → r ≡ Err u → Gives vords (then_peek p g) to r other
+gives-err vords to other p h g q = rw q (gives-fails vords to other (err-no-end refl) p h g)
 
 -- ---- an answer that is an end
 pub record EndsAt {A : Type 0} (words : A → List ℕ) (p : Peek (Result A)) (at e : ℕ) (new : List ℕ) : Type 0 where
@@ -60,7 +69,7 @@ pub record EndsAt {A : Type 0} (words : A → List ℕ) (p : Peek (Result A)) (a
   pub stands : Stand new at (words value) e
 
 module _ {A : Type 0} {words : A → List ℕ} {at : ℕ} {r : Built} {new : List ℕ} where
-  pub gives-ends : (p : Peek (Result A)) → Gives words p at r new → {e : ℕ} → r ≡ Ends e → EndsAt words p at e new
+  pub gives-ends : (p : Peek (Result A)) → Gives words p at r new → {e : ℕ} → r ≡ Ok e → EndsAt words p at e new
   gives-ends (got (ok a)) h {e} q = let s = h.says in let i : e ≡ at + length (words a) = cc in record { value = a; is = refl; ends = i; stands = rw i h.stands }
   gives-ends (got none) h q = let s = h.says in let z : ◌≡◌ {A = ℕ} 0 1 = cc in absurd (omega arith)
   gives-ends (got large) h q = let s = h.says in let z : ◌≡◌ {A = ℕ} 0 1 = cc in absurd (omega arith)
@@ -73,10 +82,10 @@ kept-before to at new old h e = sym (take-take to at new h) ∙ ap (take to) e �
 -- ---- what an answer says of a memo, for a caller
 module _ {A : Type 0} {f known store : List ℕ} {words : A → List ℕ} {m : Ask (Result A)} {at : ℕ} {old : List ℕ} {r : Built} {new : List ℕ}
     (x : Builds f known store words m at old r new) {M : Memo} (k : Memory f known store M) where
-  pub built-ends : {e : ℕ} → r ≡ Ends e → EndsAt words (peek M m) at e new
+  pub built-ends : {e : ℕ} → r ≡ Ok e → EndsAt words (peek M m) at e new
   built-ends q = gives-ends (peek M m) (x.gives M k) q
 
-  pub built-none : r ≡ None → peek M m ≡ got none
+  pub built-none : r ≡ Err unbuilt.None → peek M m ≡ got none
   built-none q = go (peek M m) (x.gives M k).says
     where
       go : (p : Peek (Result A)) → r ≡ answer_of words at p → p ≡ got none
@@ -85,7 +94,7 @@ module _ {A : Type 0} {f known store : List ℕ} {words : A → List ℕ} {m : A
       go (got large) s = let z : ◌≡◌ {A = ℕ} 0 1 = cc in absurd (omega arith)
       go (wants d) s = let z : ◌≡◌ {A = ℕ} 0 1 = cc in absurd (omega arith)
 
-  pub built-large : r ≡ TooLarge → peek M m ≡ got large
+  pub built-large : r ≡ Err unbuilt.TooLarge → peek M m ≡ got large
   built-large q = go (peek M m) (x.gives M k).says
     where
       go : (p : Peek (Result A)) → r ≡ answer_of words at p → p ≡ got large
@@ -94,7 +103,7 @@ module _ {A : Type 0} {f known store : List ℕ} {words : A → List ℕ} {m : A
       go (got large) s = refl
       go (wants d) s = let z : ◌≡◌ {A = ℕ} 0 1 = cc in absurd (omega arith)
 
-  pub built-wanted : {d : ℕ} → r ≡ Wanted d → peek M m ≡ wants d
+  pub built-wanted : {d : ℕ} → r ≡ Err (unbuilt.Wanted d) → peek M m ≡ wants d
   built-wanted {d} q = go (peek M m) (x.gives M k).says
     where
       go : (p : Peek (Result A)) → r ≡ answer_of words at p → p ≡ wants d

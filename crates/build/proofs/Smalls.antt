@@ -19,9 +19,8 @@ use Rattle.laws.specs.Gathers.{wholes}
 use Rattle.laws.specs.Starts.{gives_elements, gives-default}
 use Rattle.lines.proofs.Memories.{remembers-small}
 use Rattle.places.specs.Inside.{PlaceIn}
-use Rattle.build.specs.declared.built.Built.{Built}
-use Rattle.build.specs.declared.built.Built.TheVariants.{Ends}
-use Rattle.build.specs.Built.{Memory, Builds, Ready}
+use Rattle.std.specs.Prelude.{Ok}
+use Rattle.build.specs.Built.{Built, Memory, Builds, Ready}
 use Rattle.build.specs.Parts.{WholeAt}
 use Rattle.build.proofs.Peeks.{EndsAt, gives-ends}
 
@@ -53,7 +52,7 @@ module _ {f : List ℕ} (a : Accepted f) {known store : List ℕ} {M : Memo} (m 
 
 -- where the default of a place ends
 module _ {f known store : List ℕ} (y : Ready f known store) {place : Place} (i : PlaceIn f place)
-    {p : ℕ} {old : List ℕ} {r : Built} {new : List ℕ} (x : Builds f known store flatten (default_of f place) p old r new) {e : ℕ} (q : r ≡ Ends e) where
+    {p : ℕ} {old : List ℕ} {r : Built} {new : List ℕ} (x : Builds f known store flatten (default_of f place) p old r new) {e : ℕ} (q : r ≡ Ok e) where
   there : EndsAt flatten (peek y.memo (default_of f place)) p e new
   there = gives-ends (peek y.memo (default_of f place)) (x.gives y.memo y.memory) q
 

@@ -8,15 +8,21 @@ use Rattle.laws.specs.Accepted.{Accepted}
 use Rattle.shapes.specs.Classes.{Classes}
 use Rattle.tree.specs.Words.{Stand}
 use Rattle.lines.specs.Memory.{Remembers}
-use Rattle.build.specs.declared.built.Built.{Built}
-use Rattle.build.specs.declared.built.Built.TheVariants.{Ends, None, TooLarge, Wanted}
+use Rattle.build.specs.declared.built.Unbuilt.{Unbuilt}
+use Rattle.build.specs.declared.built.Unbuilt.TheVariants.{None, TooLarge, Wanted}
+use Rattle.std.specs.Prelude.{Err, Ok}
+use Rattle.std.specs.Prelude as std
+
+-- where a value ends in the room, or why there is none
+abbrev pub Built : Type 0
+Built = std.Result ℕ Unbuilt
 
 -- a value's words stand at `at`, and the answer is where they end
 abbrev pub answer_of : {A : Type 0} → (A → List ℕ) → ℕ → Peek (Result A) → Built
-answer_of words at (got (ok a)) = Ends (at + length (words a))
-answer_of words at (got none) = None
-answer_of words at (got large) = TooLarge
-answer_of words at (wants d) = Wanted d
+answer_of words at (got (ok a)) = Ok (at + length (words a))
+answer_of words at (got none) = Err None
+answer_of words at (got large) = Err TooLarge
+answer_of words at (wants d) = Err (Wanted d)
 
 abbrev pub Stands : {A : Type 0} → (A → List ℕ) → ℕ → Peek (Result A) → List ℕ → Type 0
 Stands words at (got (ok a)) new = Stand new at (words a) (at + length (words a))

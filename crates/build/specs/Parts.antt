@@ -13,9 +13,8 @@ use Rattle.definition.specs.Resolve.{Memo}
 use Rattle.definition.specs.Peek.{peek}
 use Rattle.laws.specs.Whole.{Good}
 use Rattle.tree.specs.Words.{Stand}
-use Rattle.build.specs.declared.built.Built.{Built}
-use Rattle.build.specs.declared.built.Built.TheVariants.{Ends}
-use Rattle.build.specs.Built.{Gives, Memory}
+use Rattle.build.specs.Built.{Built, Gives, Memory}
+use Rattle.std.specs.Prelude.{Ok}
 
 -- ---- how deep a place nests: as its shape does
 unfoldable pub place_depth : List ℕ → Place → ℕ
@@ -45,7 +44,7 @@ field_ask f place name size = done (field_place f place name) >>= default_of f >
 -- a field at `to`, under a head at `at`
 pub record BuildsField (f known store : List ℕ) (place : Place) (name at to : ℕ) (old : List ℕ) (r : Built) (new : List ℕ) : Type 0 where
   pub gives : (size : ℕ) → to ≡ at + 6 + 6 * size → (M : Memo) → Memory f known store M → Gives flatten_all (peek M (field_ask f place name size)) to r new
-  pub ends : (e : ℕ) → r ≡ Ends e → (to ≤ e) × (e ≤ at + tree_words)
+  pub ends : (e : ℕ) → r ≡ Ok e → (to ≤ e) × (e ≤ at + tree_words)
   pub kept : take to new ≡ take to old
 
 -- the words of a list of values under an array's head

@@ -12,7 +12,7 @@ ghost use Rattle.places.specs.Inside.{PlaceIn};
 ghost use Rattle.build.specs.Built.{Ready, Builds};
 ghost use Rattle.build.specs.Parts.{implicit_levels, start_levels, listed_names, BuildsField, array_words};
 
-use crate::built::Built;
+use crate::built::Unbuilt;
 use crate::fields::{head_structure, is_listed, name_field};
 use crate::leaves::implicit_leaf;
 use crate::remembered::type_default;
@@ -33,7 +33,7 @@ pub fn default_of(
     place: Place,
     room: &mut [u32],
     at: usize,
-) -> Built
+) -> Result<usize, Unbuilt>
     requires { Ready file.now.source known.now store.now × PlaceIn file.now.source place × (at + start_levels file.now.source place * tree_words ≤ length room.old) }
     ensures { Builds file.now.source known.now store.now flatten (default_of file.now.source place) at room.old result room.new }
 {
@@ -53,7 +53,7 @@ pub fn implicit(
     place: Place,
     room: &mut [u32],
     at: usize,
-) -> Built
+) -> Result<usize, Unbuilt>
     requires { Ready file.now.source known.now store.now × PlaceIn file.now.source place × (at + implicit_levels file.now.source place * tree_words ≤ length room.old) }
     ensures { Builds file.now.source known.now store.now flatten (Defaults.implicit file.now.source place) at room.old result room.new }
 {
@@ -87,7 +87,7 @@ pub fn implicit(
                 room,
                 at,
             ),
-            None => Built::None,
+            None => Err(Unbuilt::None),
         },
         _ => implicit_leaf(&file.source, shape, room, at),
     }
@@ -104,19 +104,16 @@ fn field_default(
     room: &mut [u32],
     at: usize,
     to: usize,
-) -> Built
+) -> Result<usize, Unbuilt>
     requires { Ready file.now.source known.now store.now × PlaceIn file.now.source place × (at ≤ to) × (to ≤ at + tree_words) × (at + implicit_levels file.now.source place * tree_words ≤ length room.old) }
     ensures { BuildsField file.now.source known.now store.now place name at to room.old result room.new }
 {
     match field_place(file, known, place, name) {
         Some(inner) => {
-            let r = default_of(file, known, store, inner, room, to);
-            let Built::Ends(end) = r else {
-                return r;
-            };
+            let end = default_of(file, known, store, inner, room, to)?;
             name_field(room, at, to, end, name)
         }
-        None => Built::None,
+        None => Err(Unbuilt::None),
     }
 }
 
@@ -132,29 +129,19 @@ fn fields(
     many: u32,
     room: &mut [u32],
     at: usize,
-) -> Built
+) -> Result<usize, Unbuilt>
     requires { Ready file.now.source known.now store.now × PlaceIn file.now.source place × (section < 14) × (first + many < 2 ^ 32) × (at + implicit_levels file.now.source place * tree_words ≤ length room.old) }
     ensures { Builds file.now.source known.now store.now flatten (structured (fields_by file.now.source (default_of file.now.source) place (listed_names file.now.source section first many))) at room.old result room.new }
 {
-    let mut k = first;
-    let mut left = many;
     let mut made: u32 = 0;
     let mut to = at + NODE_WORDS;
-    while left > 0 {
+    for k in first..first + many {
         if !is_listed(&file.source, section, k) {
-            k += 1;
-            left -= 1;
             continue;
         }
         let name = file.source.word(section, k, 0);
-        let r = field_default(file, known, store, place, name, room, at, to);
-        let Built::Ends(end) = r else {
-            return r;
-        };
-        to = end;
+        to = field_default(file, known, store, place, name, room, at, to)?;
         made += 1;
-        k += 1;
-        left -= 1;
     }
     head_structure(room, at, made, to)
 }
@@ -171,14 +158,11 @@ pub fn element_defaults(
     many: u32,
     room: &mut [u32],
     at: usize,
-) -> Built
+) -> Result<usize, Unbuilt>
     requires { Ready file.now.source known.now store.now × PlaceIn file.now.source place × (place.shape ≡ shape.Array element first many) × (at + 6 + start_levels file.now.source (element_place file.now.source place element) * tree_words ≤ length room.old) × (at + tree_words ≤ length room.old) }
     ensures { Builds file.now.source known.now store.now array_words (element_defaults file.now.source (default_of file.now.source) place) at room.old result room.new }
 {
     let inner = element_place(file, known, place, element);
-    let r = default_of(file, known, store, inner, room, at + NODE_WORDS);
-    let Built::Ends(end) = r else {
-        return r;
-    };
+    let end = default_of(file, known, store, inner, room, at + NODE_WORDS)?;
     spread(&file.source, first, many, room, at, end)
 }

@@ -6,7 +6,7 @@ ghost use Rattle.definition.specs.Tree.{tree_words};
 ghost use Rattle.build.specs.Parts.{is_listed};
 ghost use Rattle.build.specs.Fields.{NamesField, HeadsStructure};
 
-use crate::built::Built;
+use crate::built::Unbuilt;
 use definition::layout::{BLOCK_FIELDS, TREE_WORDS};
 use records::source::Source;
 use tree::node::write_structure;
@@ -23,22 +23,28 @@ pub fn is_listed(file: &Source<'_>, section: usize, k: u32) -> bool
 }
 
 // A field's tree takes its name, where all that is gathered under the head at `at` is small enough.
-pub fn name_field(room: &mut [u32], at: usize, to: usize, end: usize, name: u32) -> Built
+pub fn name_field(
+    room: &mut [u32],
+    at: usize,
+    to: usize,
+    end: usize,
+    name: u32,
+) -> Result<usize, Unbuilt>
     requires { (at ≤ to) × (to ≤ end) × (to < length room.old) }
     ensures { NamesField at to end name room.old result room.new }
 {
     if TREE_WORDS < end - at {
-        return Built::TooLarge;
+        return Err(Unbuilt::TooLarge);
     }
     room[to] = name;
-    Built::Ends(end)
+    Ok(end)
 }
 
 // The head over so many fields that stand behind it, up to an end.
-pub fn head_structure(room: &mut [u32], at: usize, made: u32, end: usize) -> Built
+pub fn head_structure(room: &mut [u32], at: usize, made: u32, end: usize) -> Result<usize, Unbuilt>
     requires { at + 6 ≤ length room.old }
     ensures { HeadsStructure at made end room.old result room.new }
 {
     write_structure(room, at, made);
-    Built::Ends(end)
+    Ok(end)
 }

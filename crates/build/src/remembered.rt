@@ -7,7 +7,7 @@ ghost use Rattle.definition.specs.Tree.{flatten, tree_words};
 ghost use Rattle.laws.specs.Used.{IsType};
 ghost use Rattle.build.specs.Built.{index_at, Builds};
 
-use crate::built::{Built, INDEX_AT};
+use crate::built::{INDEX_AT, Unbuilt};
 use lines::copy::{Uncopied, copy_known};
 use records::source::Source;
 
@@ -19,15 +19,15 @@ pub fn type_default(
     t: u32,
     room: &mut [u32],
     at: usize,
-) -> Built
+) -> Result<usize, Unbuilt>
     requires { IsType file.now t × (index_at ≤ length known.now) × (at + tree_words ≤ length room.old) }
     ensures { Builds file.now known.now store.now flatten (type_default t) at room.old result room.new }
 {
     match copy_known(&known[INDEX_AT..], store, t, room, at) {
-        Err(Uncopied::Unknown) => Built::Wanted(t),
-        Err(Uncopied::None) => Built::None,
-        Err(Uncopied::TooLarge) => Built::TooLarge,
-        Ok(end) => Built::Ends(end),
-        Err(Uncopied::Full) => Built::None,
+        Err(Uncopied::Unknown) => Err(Unbuilt::Wanted(t)),
+        Err(Uncopied::None) => Err(Unbuilt::None),
+        Err(Uncopied::TooLarge) => Err(Unbuilt::TooLarge),
+        Ok(end) => Ok(end),
+        Err(Uncopied::Full) => Err(Unbuilt::None),
     }
 }

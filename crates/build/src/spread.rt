@@ -7,14 +7,14 @@ ghost use Rattle.definition.specs.Tree.{tree_words};
 ghost use Rattle.build.specs.Parts.{Spreads, WholeAt};
 ghost use Rattle.build.specs.Spread.{Flattens};
 
-use crate::built::Built;
+use crate::built::Unbuilt;
 use definition::layout::NODE_WORDS;
 use records::source::Source;
 use shapes::arrays::elements;
 use tree::node::write_array;
 use tree::part::{Value, value_at};
 use tree::words::shift;
-use tree_changes::grow::{Unfit, repeat};
+use tree_changes::grow::repeat;
 
 // So many values, with so many nodes in all.
 #[derive(Clone, Copy)]
@@ -44,19 +44,14 @@ pub fn flatten_values(room: &mut [u32], at: usize, end: usize) -> Values
 }
 
 // The tree behind a head's place, so many times.
-fn spread_times(room: &mut [u32], at: usize, end: usize, times: usize) -> Built
+fn spread_times(room: &mut [u32], at: usize, end: usize, times: usize) -> Result<usize, Unbuilt>
     requires { WholeAt room.old (at + 6) end × (at + tree_words ≤ length room.old) × (times ≤ 65537) }
     ensures { Spreads times at end room.old result room.new }
 {
     let v = flatten_values(room, at + NODE_WORDS, end);
-    match repeat(room, at + NODE_WORDS, v.nodes, times) {
-        Ok(e) => {
-            write_array(room, at, v.count * (times as u32));
-            Built::Ends(e)
-        }
-        Err(Unfit::TooLarge) => Built::TooLarge,
-        Err(Unfit::Outside) => Built::None,
-    }
+    let e = repeat(room, at + NODE_WORDS, v.nodes, times)?;
+    write_array(room, at, v.count * (times as u32));
+    Ok(e)
 }
 
 // The same for each element of an array of some dimensions.
@@ -67,7 +62,7 @@ pub fn spread(
     room: &mut [u32],
     at: usize,
     end: usize,
-) -> Built
+) -> Result<usize, Unbuilt>
     requires { WholeAt room.old (at + 6) end × (at + tree_words ≤ length room.old) }
     ensures { Spreads (elements_of file.now first many) at end room.old result room.new }
 {

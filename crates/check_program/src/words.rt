@@ -19,11 +19,11 @@ fn next_word(reader: &mut impl Read) -> Result<Option<u32>, Unread> {
 fn fill(reader: &mut impl Read, words: &mut [u32]) -> Result<usize, Unread>
     ensures { IfOk result (λ count. count ≤ length words.new) }
 {
-    for i in 0..words.len() {
-        let Some(word) = next_word(reader)? else {
+    for (i, word) in words.iter_mut().enumerate() {
+        let Some(next) = next_word(reader)? else {
             return Ok(i);
         };
-        words[i] = word;
+        *word = next;
     }
     match next_word(reader) {
         Ok(None) => Ok(words.len()),

@@ -1,4 +1,6 @@
 // The default that an alias or a subrange gives its type (`alias_default`).
+#![tactic(auto, using(crate::proofs::alias::Laws::laws), unfolding(definition::specs::Records::named_type, definition::specs::Defaults::alias_default_by, definition::specs::Defaults::subrange_default, initial::specs::Stated::alias_default, initial::specs::Stated::simple_default, initial::specs::Stated::base_default, initial::specs::Stated::stated_or, initial::specs::Stated::stated_as, initial::specs::Stated::array_or, initial::specs::Stated::members_over, initial::specs::Rooms::alias_levels, initial::specs::Rooms::alias_levels_by, initial::specs::Rooms::simple_levels))]
+
 ghost use Rattle.std.specs.Prelude.{◌≡◌, ◌+◌, ◌*◌, ◌≤◌, ◌<◌, length};
 ghost use Rattle.definition.specs.Starting.{subrange_default};
 ghost use Rattle.definition.specs.Tree.{flatten, tree_words};
@@ -11,7 +13,7 @@ ghost use Rattle.initial.specs.declared.values.Stated.TheVariants as stated;
 ghost use Rattle.initial.specs.Stated.{alias_default, simple_default, base_default, AliasIn, SpecIn, ValueIn, StartIn, Over};
 ghost use Rattle.initial.specs.Rooms.{alias_levels, simple_levels};
 
-use build::built::Built;
+use build::built::Unbuilt;
 use build::defaults::implicit;
 use build::remembered::type_default;
 use definition::layout::INITIALIZERS;
@@ -31,34 +33,26 @@ pub fn alias_default(
     i: u32,
     room: &mut [u32],
     at: usize,
-) -> Built
+) -> Result<usize, Unbuilt>
     requires { Ready file.now.source known.now store.now × PlaceIn file.now.source place × AliasIn file.now.source i × (at + alias_levels file.now.source i place * tree_words ≤ length room.old) }
     ensures { Builds file.now.source known.now store.now flatten (alias_default file.now.source i place) at room.old result room.new }
 {
     let v = file.source.initializer(i);
     let name = file.source.word(INITIALIZERS, i, 1);
     match v {
-        Initializer::Subrange { value: _ } => spec_default(
-            file, known, store, place, name, room, at,
-        ),
+        Initializer::Subrange { .. } => spec_default(file, known, store, place, name, room, at),
         Initializer::Simple { value } => constant_or_named(
             file, known, store, place, value, name, room, at,
         ),
-        Initializer::String {
-            value,
-            length: _,
-            width: _,
-        } => constant_or_implicit(file, known, store, place, value, room, at),
-        Initializer::FunctionBlock { first, count } => members_over_named(
-            file, known, store, place, name, first, count, room, at,
+        Initializer::String { value, .. } => constant_or_implicit(
+            file, known, store, place, value, room, at,
         ),
-        Initializer::Structure { first, count } => members_over_named(
-            file, known, store, place, name, first, count, room, at,
-        ),
+        Initializer::FunctionBlock { first, count } | Initializer::Structure { first, count } =>
+            members_over_named(file, known, store, place, name, first, count, room, at),
         Initializer::Array { first, count } => array_or_spec(
             file, known, store, place, name, first, count, room, at,
         ),
-        Initializer::Unknown => Built::None,
+        Initializer::Unknown => Err(Unbuilt::None),
         _ => implicit(file, known, store, place, room, at),
     }
 }
@@ -68,10 +62,10 @@ fn over_base(
     file: &File<'_>,
     place: Place,
     start: u32,
-    base: Built,
+    base: Result<usize, Unbuilt>,
     room: &mut [u32],
     at: usize,
-) -> Built
+) -> Result<usize, Unbuilt>
     requires { PlaceIn file.now.source place × ValueIn file.now.source stated.Constant start × (at + 6 ≤ length room.old) }
     ensures { Over file.now.source place start at base room.old result room.new }
 {
@@ -79,8 +73,8 @@ fn over_base(
         return base;
     }
     match base {
-        Built::TooLarge => Built::TooLarge,
-        Built::Wanted(d) => Built::Wanted(d),
+        Err(Unbuilt::TooLarge) => Err(Unbuilt::TooLarge),
+        Err(Unbuilt::Wanted(d)) => Err(Unbuilt::Wanted(d)),
         _ => constant_start(file, place, start - 1, room, at),
     }
 }
@@ -95,12 +89,12 @@ pub fn subrange_default(
     start: u32,
     room: &mut [u32],
     at: usize,
-) -> Built
+) -> Result<usize, Unbuilt>
     requires { Ready file.now.source known.now store.now × PlaceIn file.now.source place × SpecIn file.now.source name × ValueIn file.now.source stated.Constant start × (at + implicit_levels file.now.source place * tree_words ≤ length room.old) }
     ensures { Builds file.now.source known.now store.now flatten (subrange_default file.now.source place name start) at room.old result room.new }
 {
     if name == 0 {
-        return Built::None;
+        return Err(Unbuilt::None);
     }
     let base = spec_default(file, known, store, place, name, room, at);
     over_base(file, place, start, base, room, at)
@@ -115,7 +109,7 @@ pub fn base_default(
     base: u32,
     room: &mut [u32],
     at: usize,
-) -> Built
+) -> Result<usize, Unbuilt>
     requires { Ready file.now.source known.now store.now × PlaceIn file.now.source place × Link (IsType file.now.source) base × (at + implicit_levels file.now.source place * tree_words ≤ length room.old) }
     ensures { Builds file.now.source known.now store.now flatten (base_default file.now.source place base) at room.old result room.new }
 {
@@ -134,12 +128,12 @@ pub fn simple_default(
     start: u32,
     room: &mut [u32],
     at: usize,
-) -> Built
+) -> Result<usize, Unbuilt>
     requires { Ready file.now.source known.now store.now × PlaceIn file.now.source place × StartIn file.now.source start × (at + simple_levels file.now.source start place * tree_words ≤ length room.old) }
     ensures { Builds file.now.source known.now store.now flatten (simple_default file.now.source place start) at room.old result room.new }
 {
     if start == 0 {
-        return Built::None;
+        return Err(Unbuilt::None);
     }
     alias_default(file, known, store, place, start - 1, room, at)
 }

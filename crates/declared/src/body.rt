@@ -1,4 +1,6 @@
 // The default of a type, by its declaration (`declared_default`, `block_default`, `type_default`).
+#![tactic(auto, using(crate::proofs::body::Laws::laws), unfolding(definition::specs::Records::alias_base, definition::specs::Defaults::body_by, definition::specs::Defaults::body, initial::specs::Stated::simple_default, initial::specs::Stated::alias_default, initial::specs::Stated::base_default, initial::specs::Stated::stated_or, initial::specs::Stated::stated_as, initial::specs::Stated::array_or, initial::specs::Rooms::body_levels, initial::specs::Rooms::body_levels_by))]
+
 ghost use Rattle.std.specs.Prelude.{◌≡◌, ◌+◌, ◌*◌, ◌≤◌, ◌<◌, length};
 ghost use Rattle.definition.specs.Records.{declaration_at};
 ghost use Rattle.definition.specs.Starting as Defaults;
@@ -14,7 +16,7 @@ ghost use Rattle.initial.specs.Rooms.{parts_levels, body_levels_by, body_levels}
 
 use crate::alias::{base_default, simple_default, subrange_default};
 use crate::parts::parts;
-use build::built::Built;
+use build::built::Unbuilt;
 use build::defaults::implicit;
 use definition::layout::{ELEMENTS, TYPES, VARIABLES};
 use definition::records::{Declaration, Place};
@@ -33,7 +35,7 @@ fn block_default(
     many: u32,
     room: &mut [u32],
     at: usize,
-) -> Built
+) -> Result<usize, Unbuilt>
     requires { Ready file.now.source known.now store.now × PlaceIn file.now.source place × PartsIn file.now.source variables first many × (at + parts_levels file.now.source place variables first many * tree_words ≤ length room.old) }
     ensures { Builds file.now.source known.now store.now flatten (structured (instance_from file.now.source first many)) at room.old result room.new }
 {
@@ -50,7 +52,7 @@ fn declared_default(
     d: Declaration,
     room: &mut [u32],
     at: usize,
-) -> Built
+) -> Result<usize, Unbuilt>
     requires { Ready file.now.source known.now store.now × PlaceIn file.now.source place × IsType file.now.source t × (d ≡ declaration_at file.now.source t) × (at + body_levels_by file.now.source place d * tree_words ≤ length room.old) }
     ensures { Builds file.now.source known.now store.now flatten (body_by file.now.source t place d) at room.old result room.new }
 {
@@ -86,7 +88,7 @@ fn declared_default(
         Declaration::FunctionBlock { first, count } => block_default(
             file, known, store, place, first, count, room, at,
         ),
-        Declaration::Unknown => Built::None,
+        Declaration::Unknown => Err(Unbuilt::None),
         _ => implicit(file, known, store, place, room, at),
     }
 }
@@ -99,7 +101,7 @@ pub fn body(
     t: u32,
     room: &mut [u32],
     at: usize,
-) -> Built
+) -> Result<usize, Unbuilt>
     requires { Ready file.now.source known.now store.now × IsType file.now.source t × (at + body_levels file.now.source t * tree_words ≤ length room.old) }
     ensures { Builds file.now.source known.now store.now flatten (Defaults.body file.now.source t) at room.old result room.new }
 {

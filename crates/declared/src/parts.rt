@@ -1,4 +1,6 @@
 // The parts of a structure's declaration and of a function block, under their head.
+#![tactic(auto, using(crate::proofs::parts::Laws::laws), unfolding(initial::specs::Stated::element_start, initial::specs::Stated::part_start, initial::specs::Stated::is_part, initial::specs::Rooms::element_levels, initial::specs::Rooms::part_levels))]
+
 ghost use Rattle.std.specs.Prelude.{◌≡◌, ◌+◌, ◌*◌, ◌≤◌, ◌<◌, length};
 ghost use Rattle.definition.specs.Layout as Layout;
 ghost use Rattle.definition.specs.Layout.{elements};
@@ -9,7 +11,7 @@ ghost use Rattle.build.specs.Built.{Ready, Builds};
 ghost use Rattle.initial.specs.Stated.{element_start, part_start, is_part, parts_from, BuildsPart, PartIn, PartsIn};
 ghost use Rattle.initial.specs.Rooms.{element_levels, part_levels, parts_levels};
 
-use build::built::Built;
+use build::built::Unbuilt;
 use build::fields::{head_structure, name_field};
 use definition::layout::{ELEMENTS, NODE_WORDS, VARIABLES};
 use definition::records::Place;
@@ -28,7 +30,7 @@ pub fn element_start(
     e: u32,
     room: &mut [u32],
     at: usize,
-) -> Built
+) -> Result<usize, Unbuilt>
     requires { Ready file.now.source known.now store.now × PlaceIn file.now.source place × (e < Layout.count file.now.source elements) × (at + element_levels file.now.source place e * tree_words ≤ length room.old) }
     ensures { Builds file.now.source known.now store.now flatten (element_start file.now.source place e) at room.old result room.new }
 {
@@ -38,7 +40,7 @@ pub fn element_start(
             let i = file.source.word(ELEMENTS, e, 1);
             initializer(file, known, store, inner, i, room, at)
         }
-        None => Built::None,
+        None => Err(Unbuilt::None),
     }
 }
 
@@ -52,7 +54,7 @@ pub fn part_start(
     k: u32,
     room: &mut [u32],
     at: usize,
-) -> Built
+) -> Result<usize, Unbuilt>
     requires { Ready file.now.source known.now store.now × PlaceIn file.now.source place × PartIn file.now.source section k × (at + part_levels file.now.source place section k * tree_words ≤ length room.old) }
     ensures { Builds file.now.source known.now store.now flatten (part_start file.now.source place section k) at room.old result room.new }
 {
@@ -87,15 +89,12 @@ fn part_field(
     room: &mut [u32],
     at: usize,
     to: usize,
-) -> Built
+) -> Result<usize, Unbuilt>
     requires { Ready file.now.source known.now store.now × PlaceIn file.now.source place × PartIn file.now.source section k × (section < 14) × (at ≤ to) × (to + part_levels file.now.source place section k * tree_words ≤ length room.old) }
     ensures { BuildsPart file.now.source known.now store.now place section k at to room.old result room.new }
 {
     let name = file.source.word(section, k, 0);
-    let r = part_start(file, known, store, place, section, k, room, to);
-    let Built::Ends(end) = r else {
-        return r;
-    };
+    let end = part_start(file, known, store, place, section, k, room, to)?;
     name_field(room, at, to, end, name)
 }
 
@@ -110,28 +109,18 @@ pub fn parts(
     many: u32,
     room: &mut [u32],
     at: usize,
-) -> Built
+) -> Result<usize, Unbuilt>
     requires { Ready file.now.source known.now store.now × PlaceIn file.now.source place × PartsIn file.now.source section first many × (at + parts_levels file.now.source place section first many * tree_words ≤ length room.old) }
     ensures { Builds file.now.source known.now store.now flatten (structured (parts_from file.now.source place section first many)) at room.old result room.new }
 {
-    let mut k = first;
-    let mut left = many;
     let mut made: u32 = 0;
     let mut to = at + NODE_WORDS;
-    while left > 0 {
+    for k in first..first + many {
         if !is_part(&file.source, section, k) {
-            k += 1;
-            left -= 1;
             continue;
         }
-        let r = part_field(file, known, store, place, section, k, room, at, to);
-        let Built::Ends(end) = r else {
-            return r;
-        };
-        to = end;
+        to = part_field(file, known, store, place, section, k, room, at, to)?;
         made += 1;
-        k += 1;
-        left -= 1;
     }
     head_structure(room, at, made, to)
 }

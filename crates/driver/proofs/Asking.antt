@@ -1,6 +1,6 @@
 -- A law for each call and each return of asked.rt. Assumes nothing.
 use mathlib.Core.Path.{◌≡◌, refl, ap, sym, subst, ◌∙◌}
-use mathlib.Core.Bool.{Bool, true, false}
+use mathlib.Core.Bool.{Bool, true, false, ◌&&◌}
 use mathlib.Core.List.{List, [], ◌∷◌, ◌++◌}
 use Prim.Native.Nat.{ℕ, zero, suc, ◌+◌, ◌-◌, ◌≤◌, ◌<◌, min}
 use native.Mathlib.Omega.{arith}
@@ -23,8 +23,9 @@ use Rattle.lines.specs.Append.{most_words}
 use Rattle.lines.proofs.Memories.{remembers-empty}
 use Rattle.build.specs.Built.{index_at, index_in}
 use Rattle.driver.specs.Driver.{width, Holding, ran, resolved, After, Resolves, Given, Held, Fresh}
-use Rattle.driver.specs.Asked.{asked, asked_declared, declared_memo, Recalls, RecallsDeclared, Declaring, Declares}
-use Rattle.driver.proofs.Tabling.{index-long, front_same}
+use Rattle.driver.specs.Asked.{asked, asked_one, each_memo, declared_memo, Recalls, RecallsOne, Asking, AsksEach, Declares}
+use Rattle.driver.specs.Every.{every_memo, ResolvesAll}
+use Rattle.driver.proofs.Tabling.{index-long, front_same, front-then}
 use Rattle.driver.proofs.Widths.{run-width, spent-empty}
 use Rattle.driver.proofs.Holdings.{fresh-unknown, unknown-fresh}
 use Rattle.driver.proofs.Settling.{given-kept}
@@ -53,17 +54,17 @@ module _ (f : List ℕ) (M : Memo) (t : ℕ) where
   unfolding ran
   asked-width = rw asked-run at (run-width (body f) (count f types) (type_default t) M)
 
-  pub declared-skips : eqb (declaration_kind f t) 0 ≡ true → asked_declared f M t ≡ M
-  unfolding asked_declared
-  declared-skips e = rw e
+  pub one-left : (only : Bool) → only && eqb (declaration_kind f t) 0 ≡ true → asked_one f only M t ≡ M
+  unfolding asked_one
+  one-left only e = rw e
 
-  pub declared-asks : eqb (declaration_kind f t) 0 ≡ false → asked_declared f M t ≡ asked f M t
-  unfolding asked_declared
-  declared-asks e = rw e
+  pub one-asked : (only : Bool) → only && eqb (declaration_kind f t) 0 ≡ false → asked_one f only M t ≡ asked f M t
+  unfolding asked_one
+  one-asked only e = rw e
 
-  declared-step-width : width M ≤ width (asked_declared f M t)
-  unfolding asked_declared
-  declared-step-width = go (eqb (declaration_kind f t) 0)
+  one-width : (only : Bool) → width M ≤ width (asked_one f only M t)
+  unfolding asked_one
+  one-width only = go (only && eqb (declaration_kind f t) 0)
     where
       go : (b : Bool) → width M ≤ width (pick b M (asked f M t))
       go true = omega arith
@@ -82,14 +83,25 @@ asking-append res (d ∷ l) l' M = go (at M d) (asking-append res l l')
     go unknown ih = ih (res M d).memo
 
 module _ (f : List ℕ) where
-  pub declared-none : declared_memo f 0 ≡ empty (count f types)
-  unfolding declared_memo ran declared_below asking run
-  declared-none = refl
+  each-none : (only : Bool) → each_memo f only 0 ≡ empty (count f types)
+  unfolding each_memo
+  each-none only = refl
 
-  pub declared-all : declared_memo f (count f types) ≡ remembered f
-  unfolding declared_memo ran Resolve.remembered resolve_all
-  declared-all = refl
+  each-next : (only : Bool) (t : ℕ) → each_memo f only (suc t) ≡ asked_one f only (each_memo f only t) t
+  unfolding each_memo
+  each-next only t = refl
 
+  each-width : (only : Bool) (k t : ℕ) → width (each_memo f only t) ≤ width (each_memo f only (k + t))
+  each-width only zero t = rw zero-add (omega arith)
+  each-width only (suc k) t = rw suc-add (rw (each-next only (k + t)) (omega (arith, each-width only k t, one-width f (each_memo f only (k + t)) (k + t) only)))
+
+  -- all types
+  every-asked : (t : ℕ) → each_memo f false t ≡ every_memo f t
+  unfolding each_memo every_memo asked_one
+  every-asked zero = refl
+  every-asked (suc t) = ap (λ (M : Memo). asked f M t) (every-asked t)
+
+  -- declared types
   one_more : (N : Memo) (t : ℕ) (b : Bool) → (run (resolve (body f) (count f types)) N (asking (pick b [] (t ∷ [])))).memo ≡ pick b N (asked f N t)
   unfolding run asking asked resolved
   one_more N t true = refl
@@ -100,16 +112,24 @@ module _ (f : List ℕ) where
       go (known o) = refl
       go unknown = refl
 
-  pub declared-next : (t : ℕ) → declared_memo f (suc t) ≡ asked_declared f (declared_memo f t) t
-  unfolding declared_memo ran declared_below asked_declared
+  declared-none : declared_memo f 0 ≡ empty (count f types)
+  unfolding declared_memo ran declared_below asking run
+  declared-none = refl
+
+  declared-all : declared_memo f (count f types) ≡ remembered f
+  unfolding declared_memo ran Resolve.remembered resolve_all
+  declared-all = refl
+
+  declared-next : (t : ℕ) → declared_memo f (suc t) ≡ asked_one f true (declared_memo f t) t
+  unfolding declared_memo ran declared_below asked_one
   declared-next t =
       let b = eqb (declaration_kind f t) 0 in
       let N = (run (resolve (body f) (count f types)) (empty (count f types)) (asking (declared_below f t))).memo in
       asking-append (resolve (body f) (count f types)) (declared_below f t) (pick b [] (t ∷ [])) (empty (count f types)) ∙ one_more N t b
 
-  pub declared-width : (k t : ℕ) → width (declared_memo f t) ≤ width (declared_memo f (k + t))
-  declared-width zero t = rw zero-add (omega arith)
-  declared-width (suc k) t = rw suc-add (rw (declared-next (k + t)) (omega (arith, declared-width k t, declared-step-width f (declared_memo f (k + t)) (k + t))))
+  declared-asked : (t : ℕ) → each_memo f true t ≡ declared_memo f t
+  declared-asked zero = each-none true ∙ sym declared-none
+  declared-asked (suc t) = each-next true t ∙ ap (λ (M : Memo). asked_one f true M t) (declared-asked t) ∙ sym (declared-next t)
 
 -- ---- `ask_type`
 module _ {f known : List ℕ} {room : ℕ} (g : Given f known room) where
@@ -135,50 +155,59 @@ module _ {f index store : List ℕ} {end t : ℕ} (h : Held f index store end) (
         go M x (known o) i = rw (asked-known f M t o i) x
         go M x unknown i = absurd (eqb-false (get_or index t 0) 0 (sym q ∙ e) (unknown-fresh x t i))
 
--- ---- `ask_declared`
-module _ {f : List ℕ} {t : ℕ} {b : Bool} (q : b ≡ eqb (declaration_kind f t) 0) where
-  pub declared-not : b ≡ true → {index store : List ℕ} {end : ℕ} → RecallsDeclared f t index store end (Some end) index store
-  declared-not e = record { gives = λ M x. rw (declared-skips f M t (sym q ∙ e)) x }
+-- ---- `ask_one`
+module _ {f : List ℕ} {only : Bool} {t : ℕ} {b : Bool} (q : b ≡ eqb (declaration_kind f t) 0) where
+  pub left-old : only && b ≡ true → {index store : List ℕ} {end : ℕ} → RecallsOne f only t index store end (Some end) index store
+  left-old e = record { gives = λ M x. rw (one-left f M t only (ap (λ (c : Bool). only && c) (sym q) ∙ e)) x }
 
-  pub declared-new : b ≡ false → {index store : List ℕ} {end : ℕ} {r : Option ℕ} {index' store' : List ℕ} → Recalls f t index store end r index' store' → RecallsDeclared f t index store end r index' store'
-  declared-new e s = record { gives = λ M x. rw (declared-asks f M t (sym q ∙ e)) (s.gives M x) }
+  pub one-new : only && b ≡ false → {index store : List ℕ} {end : ℕ} {r : Option ℕ} {index' store' : List ℕ} → Recalls f t index store end r index' store' → RecallsOne f only t index store end r index' store'
+  one-new e s = record { gives = λ M x. rw (one-asked f M t only (ap (λ (c : Bool). only && c) (sym q) ∙ e)) (s.gives M x) }
 
-pub ruleset asks = (rules, front_same, word-inside, held-fresh, recalls-new, recalls-old, declared-not, declared-new)
+pub ruleset asks = (rules, front_same, word-inside, held-fresh, recalls-new, recalls-old, left-old, one-new)
 
--- ---- `resolve_declared`
-pub declaring-start : (f words store : List ℕ) {index : List ℕ} → index ≡ cleared words → count f types ≤ length words → Declaring f index store 0 0
-declaring-start f words store i h =
+-- ---- `resolve_each`
+pub asking-start : (f : List ℕ) (only : Bool) (words store : List ℕ) {index : List ℕ} → index ≡ cleared words → count f types ≤ length words → Asking f only index store 0 0
+asking-start f only words store i h =
     record {
-      holding = rw (declared-none f) (rw i (record { remembers = remembers-empty words store 0 (count f types) h (omega arith); all = empty-long (count f types); spends = sym (spent-empty (count f types) (cleared words)) }));
+      holding = rw (each-none f only) (rw i (record { remembers = remembers-empty words store 0 (count f types) h (omega arith); all = empty-long (count f types); spends = sym (spent-empty (count f types) (cleared words)) }));
       most = omega arith;
     }
 
-module _ {f index store : List ℕ} {end t : ℕ} (x : Declaring f index store end t) where
-  pub declaring-held : Held f index store end
-  declaring-held = record { memo = declared_memo f t; holding = x.holding }
+module _ {f : List ℕ} {only : Bool} {index store : List ℕ} {end t : ℕ} (x : Asking f only index store end t) where
+  pub asking-held : Held f index store end
+  asking-held = record { memo = each_memo f only t; holding = x.holding }
 
-  pub declaring-done : {n : ℕ} → n ≡ count f types → n ≤ t → Declares f (Some end) index store
-  declaring-done e h = let k : t ≡ count f types = omega (arith, x.most) in record { after = rw (declared-all f) at (subst (λ (n : ℕ). Holding f index store end (declared_memo f n)) k x.holding) }
+  pub asking-done : {n : ℕ} → n ≡ count f types → n ≤ t → AsksEach f only (Some end) index store
+  asking-done e h = let k : t ≡ count f types = omega (arith, x.most) in record { after = subst (λ (n : ℕ). Holding f index store end (each_memo f only n)) k x.holding }
 
-  module _ (l : t < count f types) {r : Option ℕ} {index' store' : List ℕ} (s : RecallsDeclared f t index store end r index' store') where
-    pub declaring-next : {e : ℕ} → r ≡ Some e → Declaring f index' store' e (t + 1)
-    declaring-next i =
+  module _ (l : t < count f types) {r : Option ℕ} {index' store' : List ℕ} (s : RecallsOne f only t index store end r index' store') where
+    pub asking-next : {e : ℕ} → r ≡ Some e → Asking f only index' store' e (t + 1)
+    asking-next i =
         record {
-          holding = rw (add-one t, declared-next f t) (subst (λ (a : Option ℕ). After f a index' store' (asked_declared f (declared_memo f t) t)) i (s.gives (declared_memo f t) x.holding));
+          holding = rw (add-one t, each-next f only t) (subst (λ (a : Option ℕ). After f a index' store' (asked_one f only (each_memo f only t) t)) i (s.gives (each_memo f only t) x.holding));
           most = omega arith;
         }
 
-    pub declaring-full : r ≡ None → Declares f r index' store'
-    declaring-full i =
-        let g : min (length store') most_words < width (asked_declared f (declared_memo f t) t) = subst (λ (a : Option ℕ). After f a index' store' (asked_declared f (declared_memo f t) t)) i (s.gives (declared_memo f t) x.holding) in
-        record { after = subst (λ (a : Option ℕ). After f a index' store' (remembered f)) (sym i) (most g) }
+    pub asking-full : r ≡ None → {r' : Option ℕ} → r' ≡ None → AsksEach f only r' index' store'
+    asking-full i j =
+        let g : min (length store') most_words < width (asked_one f only (each_memo f only t) t) = subst (λ (a : Option ℕ). After f a index' store' (asked_one f only (each_memo f only t) t)) i (s.gives (each_memo f only t) x.holding) in
+        record { after = subst (λ (a : Option ℕ). After f a index' store' (each_memo f only (count f types))) (sym j) (most g) }
       where
-        most : min (length store') most_words < width (asked_declared f (declared_memo f t) t) → min (length store') most_words < width (remembered f)
+        most : min (length store') most_words < width (asked_one f only (each_memo f only t) t) → min (length store') most_words < width (each_memo f only (count f types))
         most g =
             let k : (count f types - suc t) + suc t ≡ count f types = omega arith in
-            let w : width (declared_memo f (suc t)) ≤ width (declared_memo f (count f types)) = rw k at (declared-width f (count f types - suc t) (suc t)) in
-            let v : width (declared_memo f (suc t)) ≡ width (asked_declared f (declared_memo f t) t) = ap width (declared-next f t) in
-            let u : width (declared_memo f (count f types)) ≡ width (remembered f) = ap width (declared-all f) in
+            let w : width (each_memo f only (suc t)) ≤ width (each_memo f only (count f types)) = rw k at (each-width f only (count f types - suc t) (suc t)) in
+            let v : width (each_memo f only (suc t)) ≡ width (asked_one f only (each_memo f only t) t) = ap width (each-next f only t) in
             omega arith
 
-pub ruleset declares = (rules, given-kept, index-inside, declaring-start, declaring-held, declaring-done, declaring-next, declaring-full)
+pub ruleset each = (rules, given-kept, front-then, index-inside, asking-start, asking-held, asking-done, asking-next, asking-full)
+
+-- ---- `resolve_declared` and `resolve_types`
+module _ {f : List ℕ} {r : Option ℕ} {index store : List ℕ} where
+  pub declares-each : AsksEach f true r index store → Declares f r index store
+  declares-each s = record { after = subst (λ (M : Memo). After f r index store M) (declared-asked f (count f types) ∙ declared-all f) s.after }
+
+  pub resolves-each : AsksEach f false r index store → ResolvesAll f r index store
+  resolves-each s = record { after = subst (λ (M : Memo). After f r index store M) (every-asked f (count f types)) s.after }
+
+pub ruleset of_each = (rules, declares-each, resolves-each)

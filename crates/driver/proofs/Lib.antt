@@ -5,5 +5,4 @@ pub mod Holdings
 pub mod Settling
 pub mod Asking
 pub mod Telling
-pub mod Types
 pub mod Sheets

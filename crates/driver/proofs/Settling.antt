@@ -6,7 +6,6 @@ use native.Mathlib.Omega.{arith}
 use lib.ListN.{length, get_or, set}
 use lib.Seq.{get_or-set_same, get_or-set_other}
 use borrow.Author.Rules.{rules}
-use denote.Enum.Declared.{tag_of}
 use borrow.Rule.Slice.PartMut.{put_mid}
 use Rattle.definition.specs.Tree.{nodes, flatten}
 use Rattle.definition.specs.Ask.{ok, none, large, Outcome}
@@ -18,33 +17,31 @@ use Rattle.laws.specs.Peeking.{peek-unknown}
 use Rattle.tree.specs.Words.{Stand}
 use Rattle.lines.specs.Append.{most_words, AppendsState, AppendsTree}
 use Rattle.lines.proofs.Memories.{remembers-none, remembers-large, remembers-tree, full-state, full-tree}
-use Rattle.build.specs.declared.built.Built.{Built}
-use Rattle.build.specs.declared.built.Built.TheVariants as built
+use Rattle.build.specs.Built.{Built}
+use Rattle.build.specs.declared.built.Unbuilt.{Unbuilt}
+use Rattle.build.specs.declared.built.Unbuilt.TheVariants as unbuilt
 use Rattle.build.specs.Built.{index_at, index_in, Gives, Builds, Ready}
-use Rattle.build.specs.contracts.built.Built.{the_type}
 use Rattle.driver.specs.Tables.{Front}
-use Rattle.driver.specs.Driver.{width, zeros, Holding, settled, resolved, After, Stores, Settles, Resolves, Given, Held, Begun, Fresh}
+use Rattle.driver.specs.Driver.{wanted_in, width, zeros, Holding, settled, resolved, After, Stores, Settles, Resolves, Given, Held, Begun, Fresh}
 use Rattle.driver.proofs.Tabling.{front-classes, front-then, back-front, back_index}
 use Rattle.driver.proofs.Widths.{line-none, line-large, line-tree, zeros-less}
 use Rattle.driver.proofs.Holdings.{busy-none, fresh-unknown, unknown-fresh, unknown-inside, to-memory, holding-begin, body-small, settled-got, settled-again, resolved-is, settled-width, resolved-old, appends-old, appends-fewer, appends-after}
 use Rattle.std.specs.Prelude.{None, Option, Some}
+use Rattle.std.specs.Prelude.{Ok, Err}
 
 -- ---- append
 module _ {b : Built} {room index store : List ℕ} {end t : ℕ} {r : Option ℕ} {index' store' : List ℕ} where
-  pub stores-ends : {e : ℕ} → b ≡ built.Ends e → AppendsTree room 0 (e / 6) index store end t r index' store' → Stores b room index store end t r index' store'
+  pub stores-ends : {e : ℕ} → b ≡ Ok e → AppendsTree room 0 (e / 6) index store end t r index' store' → Stores b room index store end t r index' store'
   stores-ends q h = record { appends = rw q h }
 
-  pub stores-none : b ≡ built.None → AppendsState 1 index store end t r index' store' → Stores b room index store end t r index' store'
-  stores-none q h = record { appends = rw q h }
+  pub stores-none : {u : Unbuilt} → b ≡ Err u → u ≡ unbuilt.None → AppendsState 1 index store end t r index' store' → Stores b room index store end t r index' store'
+  stores-none q i h = let e : b ≡ Err unbuilt.None = cc in record { appends = rw e h }
 
-  pub stores-large : b ≡ built.TooLarge → AppendsState 2 index store end t r index' store' → Stores b room index store end t r index' store'
-  stores-large q h = record { appends = rw q h }
+  pub stores-large : {u : Unbuilt} → b ≡ Err u → u ≡ unbuilt.TooLarge → AppendsState 2 index store end t r index' store' → Stores b room index store end t r index' store'
+  stores-large q i h = let e : b ≡ Err unbuilt.TooLarge = cc in record { appends = rw e h }
 
-pub stores-wanted : {room index store : List ℕ} {end t : ℕ} {r : Option ℕ} {index' store' : List ℕ} (b : Built) → tag_of the_type b ≡ 3 → Stores b room index store end t r index' store'
-stores-wanted (built.Ends e) q = absurd (omega arith)
-stores-wanted built.None q = absurd (omega arith)
-stores-wanted built.TooLarge q = absurd (omega arith)
-stores-wanted (built.Wanted d) q = record { appends = tt }
+  pub stores-wanted : {u : Unbuilt} → b ≡ Err u → {d : ℕ} → u ≡ unbuilt.Wanted d → Stores b room index store end t r index' store'
+  stores-wanted q {d} i = let e : b ≡ Err (unbuilt.Wanted d) = cc in record { appends = rw e tt }
 
 -- the index is put back
 pub stores_back : (tables : List ℕ) → index_at ≤ length tables → (part : List ℕ) → length part ≡ length (index_in tables)
@@ -78,12 +75,21 @@ to-ready g h =
 
 -- ---- what was built
 abbrev pub NoWant : Built → Type 0
-NoWant r = (d : ℕ) → r ≡ built.Wanted d → ⊥
+NoWant r = (d : ℕ) → r ≡ Err (unbuilt.Wanted d) → ⊥
 
-pub wanted-not : {X : Type 0} (d : ℕ) → NoWant (built.Wanted d) → X
+pub no-want : {b : Built} {x : Option ℕ} → x ≡ wanted_in b → x ≡ None → NoWant b
+no-want h i d q = let e : None ≡ Some d = sym i ∙ h ∙ ap wanted_in q in let z : ◌≡◌ {A = ℕ} 0 1 = cc in absurd (omega arith)
+
+pub wants-one : (b : Built) {x : Option ℕ} → x ≡ wanted_in b → {d : ℕ} → x ≡ Some d → b ≡ Err (unbuilt.Wanted d)
+wants-one (Ok e) h i = let z : ◌≡◌ {A = ℕ} 0 1 = cc in absurd (omega arith)
+wants-one (Err unbuilt.None) h i = let z : ◌≡◌ {A = ℕ} 0 1 = cc in absurd (omega arith)
+wants-one (Err unbuilt.TooLarge) h i = let z : ◌≡◌ {A = ℕ} 0 1 = cc in absurd (omega arith)
+wants-one (Err (unbuilt.Wanted e)) h {d} i = let k : e ≡ d = cc in ap (λ (n : ℕ). Err (unbuilt.Wanted n)) k
+
+pub wanted-not : {X : Type 0} (d : ℕ) → NoWant (Err (unbuilt.Wanted d)) → X
 wanted-not d k = absurd (k d refl)
 
-pub gives-wants : {at d : ℕ} {r : Built} {new : List ℕ} (p : Peek Outcome) → Gives flatten p at r new → r ≡ built.Wanted d → p ≡ wants d
+pub gives-wants : {at d : ℕ} {r : Built} {new : List ℕ} (p : Peek Outcome) → Gives flatten p at r new → r ≡ Err (unbuilt.Wanted d) → p ≡ wants d
 gives-wants (got (ok a)) h q = let s = h.says in let z : ◌≡◌ {A = ℕ} 0 1 = cc in absurd (omega arith)
 gives-wants (got none) h q = let s = h.says in let z : ◌≡◌ {A = ℕ} 0 1 = cc in absurd (omega arith)
 gives-wants (got large) h q = let s = h.says in let z : ◌≡◌ {A = ℕ} 0 1 = cc in absurd (omega arith)
@@ -113,16 +119,16 @@ module _ {f tables store : List ℕ} {end t : ℕ} (b : Begun f (index_in tables
   line_after M x (wants d) e g = wanted-not d (rw g.says at n)
 
   line-old : (a : Built) → made ≡ a → (o w : ℕ) → (o ≡ t → ⊥) → get_or (index_in tables) o 0 ≡ suc w → get_or index' o 0 ≡ suc w
-  line-old (built.Ends e) i o w k z = let q : AppendsTree room' 0 (e / 6) (index_in tables) store end t r index' store' = rw i at s.appends in appends-old q o w k z
-  line-old built.None i o w k z = let q : AppendsState 1 (index_in tables) store end t r index' store' = rw i at s.appends in appends-old q o w k z
-  line-old built.TooLarge i o w k z = let q : AppendsState 2 (index_in tables) store end t r index' store' = rw i at s.appends in appends-old q o w k z
-  line-old (built.Wanted d) i o w k z = wanted-not d (rw i at n)
+  line-old (Ok e) i o w k z = let q : AppendsTree room' 0 (e / 6) (index_in tables) store end t r index' store' = rw i at s.appends in appends-old q o w k z
+  line-old (Err unbuilt.None) i o w k z = let q : AppendsState 1 (index_in tables) store end t r index' store' = rw i at s.appends in appends-old q o w k z
+  line-old (Err unbuilt.TooLarge) i o w k z = let q : AppendsState 2 (index_in tables) store end t r index' store' = rw i at s.appends in appends-old q o w k z
+  line-old (Err (unbuilt.Wanted d)) i o w k z = wanted-not d (rw i at n)
 
   line-fewer : (a : Built) → made ≡ a → zeros index' ≤ zeros (index_in tables)
-  line-fewer (built.Ends e) i = let q : AppendsTree room' 0 (e / 6) (index_in tables) store end t r index' store' = rw i at s.appends in appends-fewer q
-  line-fewer built.None i = let q : AppendsState 1 (index_in tables) store end t r index' store' = rw i at s.appends in appends-fewer q
-  line-fewer built.TooLarge i = let q : AppendsState 2 (index_in tables) store end t r index' store' = rw i at s.appends in appends-fewer q
-  line-fewer (built.Wanted d) i = wanted-not d (rw i at n)
+  line-fewer (Ok e) i = let q : AppendsTree room' 0 (e / 6) (index_in tables) store end t r index' store' = rw i at s.appends in appends-fewer q
+  line-fewer (Err unbuilt.None) i = let q : AppendsState 1 (index_in tables) store end t r index' store' = rw i at s.appends in appends-fewer q
+  line-fewer (Err unbuilt.TooLarge) i = let q : AppendsState 2 (index_in tables) store end t r index' store' = rw i at s.appends in appends-fewer q
+  line-fewer (Err (unbuilt.Wanted d)) i = wanted-not d (rw i at n)
 
   pub settles-line : Settles f t (index_in tables) store end r index' store'
   settles-line =
@@ -163,7 +169,7 @@ module _ {f index store : List ℕ} {end t : ℕ} (b : Fresh f index store end t
 
 -- ---- what is wanted is resolved first
 module _ {f tables store : List ℕ} {end t : ℕ} (b : Begun f (index_in tables) store end t) {room room' : List ℕ} {made : Built} (h : Builds f tables store flatten (body f t) 0 room made room')
-    {d : ℕ} (q : made ≡ built.Wanted d) where
+    {d : ℕ} (q : made ≡ Err (unbuilt.Wanted d)) where
   wants-then : (M : Memo) → Holding f (index_in tables) store end M → peek M (body f t) ≡ wants d
   wants-then M x = gives-wants (peek M (body f t)) (h.gives M (to-memory x)) q
 
@@ -232,13 +238,13 @@ module _ {f : List ℕ} {t : ℕ} {index₀ store₀ : List ℕ} {end₀ : ℕ} 
   pub goes-line : NoWant made → {r : Option ℕ} {index' store' : List ℕ} → Stores made room' (index_in tables) store end t r index' store' → Settles f t index₀ store₀ end₀ r index' store'
   goes-line n {r} {index'} {store'} s = x.back r index' store' (settles-line x.begun h n s)
 
-  module _ {d : ℕ} (q : made ≡ built.Wanted d) where
+  module _ {d : ℕ} (q : made ≡ Err (unbuilt.Wanted d)) where
     pub goes-fresh : Fresh f (index_in tables) store end d
     goes-fresh = wanted-fresh x.begun h q
 
     module _ {r : Option ℕ} {index' store' : List ℕ} (s : Resolves f d (index_in tables) store end r index' store') where
-      pub goes-full : r ≡ None → Settles f t index₀ store₀ end₀ r index' store'
-      goes-full i = x.back r index' store' (settles-full x.begun h q s i)
+      pub goes-full : r ≡ None → {r' : Option ℕ} → r' ≡ None → Settles f t index₀ store₀ end₀ r' index' store'
+      goes-full i {r'} j = x.back r' index' store' (subst (λ (a : Option ℕ). Settles f t (index_in tables) store end a index' store') (i ∙ sym j) (settles-full x.begun h q s i))
 
       pub goes-next : {e : ℕ} → r ≡ Some e → Goes f t index₀ store₀ end₀ index' store' e
       goes-next i =

@@ -30,7 +30,7 @@ use Rattle.laws.specs.Falling.{declaration-asks}
 use Rattle.laws.specs.Sizes.{type-small}
 use Rattle.laws.specs.Demand.{falls}
 use Rattle.lines.specs.Append.{most_words}
-use Rattle.build.specs.declared.built.Built.{Built}
+use Rattle.build.specs.Built.{Built}
 use Rattle.build.specs.Built.{index_in, Builds}
 use Rattle.driver.specs.Driver.{look_words, width, Holding, ran, resolved, After}
 use Rattle.driver.specs.Asked.{asked}
@@ -39,7 +39,6 @@ use Rattle.driver.specs.Every.{every_memo, ResolvesAll}
 use Rattle.driver.proofs.Widths.{line-most}
 use Rattle.driver.proofs.Holdings.{to-memory}
 use Rattle.driver.proofs.Asking.{asked-known, asked-unknown, asked-run}
-use Rattle.driver.proofs.Types.{every-next}
 use Rattle.std.specs.Prelude.{None, Option, Some}
 
 -- ---- every type is known then
@@ -59,13 +58,17 @@ module _ (f : List ℕ) where
   unfolding ran
   asked-old M t e o q = subst (λ (N : Memo). at N e ≡ known o) (asked-run f M t) ((grown (body f) (count f types) (type_default t) M).old e o q)
 
+  every-next : (t : ℕ) → every_memo f (suc t) ≡ asked f (every_memo f t) t
+  unfolding every_memo
+  every-next t = refl
+
   every-known : (k t : ℕ) → t < k → (o : Outcome) × (at (every_memo f k) t ≡ known o)
   every-known zero t h = absurd (omega arith)
   every-known (suc k) t h = go (ℕ_discrete t k) (every-known k t)
     where
       go : Dec (t ≡ k) → (t < k → (o : Outcome) × (at (every_memo f k) t ≡ known o)) → (o : Outcome) × (at (every_memo f (suc k)) t ≡ known o)
-      go (yes e) ih = let x = asked-there (every_memo f k) k in (x.0, rw (e, every-next f k) x.1)
-      go (no e) ih = let x = ih (omega (arith, e)) in (x.0, rw (every-next f k) (asked-old (every_memo f k) k t x.0 x.1))
+      go (yes e) ih = let x = asked-there (every_memo f k) k in (x.0, rw (e, every-next k) x.1)
+      go (no e) ih = let x = ih (omega (arith, e)) in (x.0, rw (every-next k) (asked-old (every_memo f k) k t x.0 x.1))
 
 -- ---- the words of all lines
 width-lines : (rank : ℕ → ℕ) (S : ℕ → Outcome) (M : Memo) (i : ℕ) → ((t : ℕ) → t < length M → at M t ≡ known (S (i + t)))

@@ -6,9 +6,10 @@ use native.Mathlib.Omega.{arith}
 use lib.ListN.{length}
 use borrow.Author.Rules.{rules}
 use Rattle.definition.specs.Layout.{count, types}
-use Rattle.definition.specs.Tree.{flatten, tree_words}
-use Rattle.definition.specs.Ask.{Outcome, Ask, type_default}
-use Rattle.definition.specs.Starting.{body, declaration, remembered, type_outcome, variable_outcome}
+use Rattle.definition.specs.Tree.{Tree, flatten, tree_words}
+use Rattle.definition.specs.Ask.{ok, none, large, Outcome, Ask}
+use Rattle.tree.specs.Words.{Stand}
+use Rattle.definition.specs.Starting.{body, remembered}
 use Rattle.definition.specs.Depth.{levels}
 use Rattle.definition.specs.Answers.{line_words, room_words}
 use Rattle.definition.specs.Resolve as Resolve
@@ -21,21 +22,23 @@ use Rattle.laws.specs.Falling.{any-body}
 use Rattle.laws.specs.Held as held
 use Rattle.laws.specs.Held.{resolve-held, held_keeps}
 use Rattle.laws.specs.Outcomes.{remembered-held}
-use Rattle.laws.specs.Resolving.{resolve-there}
 use Rattle.laws.specs.Peeking.{peek-unknown, finish, restart}
-use Rattle.laws.specs.Steps.{peek-known}
 use Rattle.lines.specs.Append.{most_words}
-use Rattle.build.specs.declared.built.Built.{Built}
-use Rattle.build.specs.declared.built.Built.TheVariants as built
+use Rattle.build.specs.Built.{Built}
+use Rattle.build.specs.declared.built.Unbuilt.{Unbuilt}
+use Rattle.build.specs.declared.built.Unbuilt.TheVariants as unbuilt
+use Rattle.std.specs.Option.{ok_or}
 use Rattle.build.specs.Built.{index_in, Gives, Builds}
 use Rattle.driver.specs.Driver.{width, Holding, ran, resolved, After, Resolves, Given, Held, Fresh}
-use Rattle.driver.specs.Asked.{asked, Recalls, Declares}
-use Rattle.driver.specs.Told.{Ample, Tells, TellsOf}
+use Rattle.driver.specs.Asked.{Declares}
+use Rattle.driver.specs.declared.told.Owner.{Owner}
+use Rattle.driver.specs.declared.told.Owner.TheVariants as owner
+use Rattle.driver.specs.Told.{Ample, Tells, TellsOf, section_in, number_in, ask_in, outcome_in}
 use Rattle.driver.proofs.Widths.{width-most}
 use Rattle.driver.proofs.Holdings.{unknown-fresh, unknown-inside, to-memory, holding-small}
 use Rattle.driver.proofs.Settling.{given-kept, to-ready, gives-wants, NoWant, wanted-not}
-use Rattle.driver.proofs.Asking.{asked-run}
 use Rattle.std.specs.Prelude.{None, Option, Some}
+use Rattle.std.specs.Prelude.{Ok, Err}
 
 -- ---- there is room for every line
 abbrev Smalls : List ℕ → Memo → Type 0
@@ -51,12 +54,6 @@ resolved-smalls : (f : List ℕ) (M : Memo) (d : ℕ) → at M d ≡ unknown →
 unfolding resolved
 resolved-smalls f M d u h = (resolve-held (count f types) (λ d o. OnOk Small o) (λ d. tt) (body f) (λ t l. any-body f t) (count f types) M d u h).1
 
-asked-smalls : (f : List ℕ) (M : Memo) (t : ℕ) → Smalls f M → Smalls f (asked f M t)
-unfolding ran
-asked-smalls f M t h =
-    subst (λ (N : Memo). Smalls f N) (asked-run f M t)
-    (held_keeps (count f types) (λ d o. OnOk Small o) (λ d. tt) (body f) (λ t l. any-body f t) (count f types) (type_default t) M h)
-
 remembered-smalls : (f : List ℕ) → Smalls f (remembered f)
 remembered-smalls f = remembered-held f (λ d o. OnOk Small o) (λ d. tt) (λ d l. any-body f d)
 
@@ -65,40 +62,21 @@ never-full : {X : Type 0} {f known : List ℕ} {room n : ℕ} → Given f known 
 unfolding line_words
 never-full {f} g a store e N s h = absurd (omega (arith, a.lines, few-types f g.accepted, smalls-width f N s))
 
--- ---- room for a tree
-pub room-tree : {f known : List ℕ} {room : ℕ} → Given f known room → 0 + tree_words ≤ room
+-- a store that is full
+pub full-of : {x : Option ℕ} {a : Built} → a ≡ ok_or x unbuilt.None → {u : Unbuilt} → a ≡ Err u → x ≡ None
+full-of {x = Some n} k i = let z : ◌≡◌ {A = ℕ} 0 1 = cc in absurd (omega arith)
+full-of {x = None} k i = refl
+
+-- ---- `build`
+pub room-tree : (f : List ℕ) {room : ℕ} → room_words f ≤ room → 0 + tree_words ≤ room
 unfolding levels room_words
-room-tree g = omega (arith, g.roomy)
+room-tree f h = omega (arith, h)
+
+pub type-inside : (f : List ℕ) {o : Owner} {t : ℕ} → number_in o < count f (section_in o) → o ≡ owner.Type t → t < count f types
+type-inside f {o} {t} l e = subst (λ (o : Owner). number_in o < count f (section_in o)) e l
 
 pub ample-kept : {f : List ℕ} {n : ℕ} → Ample f n → (m : ℕ) → m ≡ n → Ample f m
 ample-kept a m e = record { lines = omega (arith, a.lines) }
-
--- ---- a type
-asked-told : (f : List ℕ) (M : Memo) (t : ℕ) → peek (asked f M t) (type_default t) ≡ got (ran f M (type_default t)).value
-unfolding asked ran run type_default peek resolved
-asked-told f M t = go (at M t) refl
-  where
-    go : (l : Look) → at M t ≡ l
-        → peek (on_look l (λ o. M) (λ u. (resolve (body f) (count f types) M t).memo)) (type_default t)
-        ≡ got (on_look {X = Ran Outcome} l (λ o. record { memo = M; value = o }) (λ u. let r = resolve (body f) (count f types) M t in record { memo = r.memo; value = r.value })).value
-    go (known o) e = peek-known M t o e
-    go unknown e = peek-known (resolve (body f) (count f types) M t).memo t (resolve (body f) (count f types) M t).value (resolve-there (body f) (count f types) M t e)
-
-module _ {f index store : List ℕ} {end t : ℕ} {r : Option ℕ} {index' store' : List ℕ} (s : Recalls f t index store end r index' store') where
-  after-ends : {e : ℕ} → r ≡ Some e → (M : Memo) → Holding f index store end M → Holding f index' store' e (asked f M t)
-  after-ends i M x = subst (λ (a : Option ℕ). After f a index' store' (asked f M t)) i (s.gives M x)
-
-  pub tells-full : {tables : List ℕ} {words : ℕ} → Given f tables words → r ≡ None → Ample f (length store) → length store' ≡ length store → (made : Built) (room : List ℕ)
-      → TellsOf f (type_default t) index store end made room
-  tells-full g i a l made room =
-      record {
-        gives = λ M x.
-            never-full g a store' l (asked f M t) (asked-smalls f M t (holding-smalls x)) (subst (λ (a : Option ℕ). After f a index' store' (asked f M t)) i (s.gives M x));
-      }
-
-pub tells-type : {f index store : List ℕ} {end t : ℕ} {r : Option ℕ} {tables store' : List ℕ} → Recalls f t index store end r (index_in tables) store' → {e : ℕ} → r ≡ Some e
-    → {old new : List ℕ} {made : Built} → Builds f tables store' flatten (type_default t) 0 old made new → TellsOf f (type_default t) index store end made new
-tells-type {f} {t} s i b = record { gives = λ M x. record { gives = rw (asked-told f M t) at (b.gives (asked f M t) (to-memory (after-ends s i M x))) } }
 
 -- ---- after all declared types
 module _ {f : List ℕ} {r : Option ℕ} {index store : List ℕ} (d : Declares f r index store) where
@@ -108,19 +86,16 @@ module _ {f : List ℕ} {r : Option ℕ} {index store : List ℕ} (d : Declares 
   pub declared-held : {e : ℕ} → r ≡ Some e → Held f index store e
   declared-held i = record { memo = remembered f; holding = declared-holding i }
 
-  pub outcome-type : {e : ℕ} → r ≡ Some e → (t : ℕ) {made : Built} {room : List ℕ} → TellsOf f (type_default t) index store e made room → Tells (type_outcome f t) made room
-  unfolding Resolve.type_outcome Resolve.answer ran
-  outcome-type i t h = h.gives (remembered f) (declared-holding i)
-
-  pub outcome-variable : {e : ℕ} → r ≡ Some e → (v : ℕ) {made : Built} {room : List ℕ} → TellsOf f (declaration f v) index store e made room → Tells (variable_outcome f v) made room
-  unfolding Resolve.variable_outcome Resolve.answer ran
-  outcome-variable i v h = h.gives (remembered f) (declared-holding i)
+  pub outcome-told : {e : ℕ} → r ≡ Some e → (o : Owner) {made : Built} {room : List ℕ} → TellsOf f (ask_in f o) index store e made room → Tells (outcome_in f o) made room
+  unfolding Resolve.type_outcome Resolve.variable_outcome Resolve.answer ran
+  outcome-told i (owner.Type t) h = h.gives (remembered f) (declared-holding i)
+  outcome-told i (owner.Variable v) h = h.gives (remembered f) (declared-holding i)
 
   module _ {tables : List ℕ} {words : ℕ} (g : Given f tables words) {n : ℕ} (a : Ample f n) (l : length store ≡ n) (i : r ≡ None) where
     pub outcome-never : (o : Outcome) (made : Built) (room : List ℕ) → Tells o made room
     outcome-never o made room = never-full g a store l (remembered f) (remembered-smalls f) (subst (λ (a : Option ℕ). After f a index store (remembered f)) i d.after)
 
--- ---- a variable
+-- ---- a type or a variable
 module _ {f tables : List ℕ} {words : ℕ} (g : Given f tables words) {store : List ℕ} {end : ℕ} (h : Held f (index_in tables) store end) (m : Ask Outcome)
     {old new : List ℕ} {made : Built} (b : Builds f tables store flatten m 0 old made new) where
   done-tells : (M : Memo) (p : Peek Outcome) → peek M m ≡ p → Gives flatten p 0 made new → NoWant made → Tells (ran f M m).value made new
@@ -131,7 +106,7 @@ module _ {f tables : List ℕ} {words : ℕ} (g : Given f tables words) {store :
   pub tells-done : NoWant made → TellsOf f m (index_in tables) store end made new
   tells-done n = record { gives = λ M x. done-tells M (peek M m) refl (b.gives M (to-memory x)) n }
 
-  module _ {d : ℕ} (q : made ≡ built.Wanted d) where
+  module _ {d : ℕ} (q : made ≡ Err (unbuilt.Wanted d)) where
     wants-it : (M : Memo) → Holding f (index_in tables) store end M → peek M m ≡ wants d
     wants-it M x = gives-wants (peek M m) (b.gives M (to-memory x)) q
 
@@ -161,5 +136,32 @@ module _ {f tables : List ℕ} {words : ℕ} (g : Given f tables words) {store :
             gives = λ M x.
                 never-full g a store' l (resolved f M d) (resolved-smalls f M d (peek-unknown M d m (wants-it M x)) (holding-smalls x)) (subst (λ (a : Option ℕ). After f a index' store' (resolved f M d)) i (s.gives M x));
           }
+
+-- ---- the other way round
+-- what an answer in the room says of the outcome
+pub record TreeIn (o : Outcome) (e : ℕ) (room : List ℕ) : Type 0 where
+  pub tree : Tree
+  pub is : o ≡ ok tree
+  pub stands : Stand room 0 (flatten tree) e
+
+pub tells-ends : {e : ℕ} {room : List ℕ} (o : Outcome) → Tells o (Ok e) room → TreeIn o e room
+tells-ends {e} (ok t) h = let s = h.gives.says in let i : e ≡ 0 + length (flatten t) = cc in record { tree = t; is = refl; stands = rw i h.gives.stands }
+tells-ends none h = let s = h.gives.says in let z : ◌≡◌ {A = ℕ} 0 1 = cc in absurd (omega arith)
+tells-ends large h = let s = h.gives.says in let z : ◌≡◌ {A = ℕ} 0 1 = cc in absurd (omega arith)
+
+pub tells_none : {room : List ℕ} (o : Outcome) → Tells o (Err unbuilt.None) room → o ≡ none
+tells_none (ok t) h = let s = h.gives.says in let z : ◌≡◌ {A = ℕ} 0 1 = cc in absurd (omega arith)
+tells_none none h = refl
+tells_none large h = let s = h.gives.says in let z : ◌≡◌ {A = ℕ} 0 1 = cc in absurd (omega arith)
+
+pub tells-large : {room : List ℕ} (o : Outcome) → Tells o (Err unbuilt.TooLarge) room → o ≡ large
+tells-large (ok t) h = let s = h.gives.says in let z : ◌≡◌ {A = ℕ} 0 1 = cc in absurd (omega arith)
+tells-large none h = let s = h.gives.says in let z : ◌≡◌ {A = ℕ} 0 1 = cc in absurd (omega arith)
+tells-large large h = refl
+
+pub tells-wanted : {X : Type 0} {d : ℕ} {room : List ℕ} (o : Outcome) → Tells o (Err (unbuilt.Wanted d)) room → X
+tells-wanted (ok t) h = let s = h.gives.says in let z : ◌≡◌ {A = ℕ} 0 1 = cc in absurd (omega arith)
+tells-wanted none h = let s = h.gives.says in let z : ◌≡◌ {A = ℕ} 0 1 = cc in absurd (omega arith)
+tells-wanted large h = let s = h.gives.says in let z : ◌≡◌ {A = ℕ} 0 1 = cc in absurd (omega arith)
 
 pub ruleset tells = (rules, given-kept, ample-kept, to-ready, room-tree, declared-held)

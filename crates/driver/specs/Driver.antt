@@ -11,10 +11,11 @@ use Rattle.laws.specs.Accepted.{Accepted}
 use Rattle.shapes.specs.Classes.{Classes}
 use Rattle.lines.specs.Append.{most_words, AppendsState, AppendsTree}
 use Rattle.lines.specs.Memory.{Remembers}
-use Rattle.build.specs.declared.built.Built.{Built}
-use Rattle.build.specs.declared.built.Built.TheVariants as built
+use Rattle.build.specs.Built.{Built}
+use Rattle.build.specs.declared.built.Unbuilt.TheVariants as unbuilt
 use Rattle.build.specs.Built.{index_at}
 use Rattle.std.specs.Prelude.{None, Option, Some}
+use Rattle.std.specs.Prelude.{Ok, Err}
 
 -- ---- the words of lines
 -- a line has a rank before its outcome's words
@@ -63,12 +64,19 @@ After f (Some e) index store N = Holding f index store e N
 After f None index store N = min (length store) most_words < width N
 
 -- ---- contracts
+-- the type that is wanted
+abbrev pub wanted_in : Built → Option ℕ
+wanted_in (Ok e) = None
+wanted_in (Err unbuilt.None) = None
+wanted_in (Err unbuilt.TooLarge) = None
+wanted_in (Err (unbuilt.Wanted d)) = Some d
+
 -- what was built at the front of a room becomes the line of t
 abbrev pub AppendsBuilt : Built → List ℕ → List ℕ → List ℕ → ℕ → ℕ → Option ℕ → List ℕ → List ℕ → Type 0
-AppendsBuilt (built.Ends e) room index store end t r index' store' = AppendsTree room 0 (e / 6) index store end t r index' store'
-AppendsBuilt built.None room index store end t r index' store' = AppendsState 1 index store end t r index' store'
-AppendsBuilt built.TooLarge room index store end t r index' store' = AppendsState 2 index store end t r index' store'
-AppendsBuilt (built.Wanted d) room index store end t r index' store' = Unit {0}
+AppendsBuilt (Ok e) room index store end t r index' store' = AppendsTree room 0 (e / 6) index store end t r index' store'
+AppendsBuilt (Err unbuilt.None) room index store end t r index' store' = AppendsState 1 index store end t r index' store'
+AppendsBuilt (Err unbuilt.TooLarge) room index store end t r index' store' = AppendsState 2 index store end t r index' store'
+AppendsBuilt (Err (unbuilt.Wanted d)) room index store end t r index' store' = Unit {0}
 
 pub record Stores (made : Built) (room index store : List ℕ) (end t : ℕ) (r : Option ℕ) (index' store' : List ℕ) : Type 0 where
   pub appends : AppendsBuilt made room index store end t r index' store'

@@ -1,5 +1,5 @@
-// Types that are asked for, and all declared types.
-#![tactic(auto, using(crate::proofs::Asking::declares))]
+// Types that are asked for: one, all declared types, or all.
+#![tactic(auto, using(crate::proofs::Asking::each))]
 
 ghost use Rattle.std.specs.Prelude.{◌≡◌, ◌<◌, eqb, length};
 ghost use Rattle.definition.specs.Layout as Layout;
@@ -7,7 +7,7 @@ ghost use Rattle.definition.specs.Records.{declaration_kind};
 ghost use Rattle.build.specs.Built.{index_in};
 ghost use Rattle.driver.specs.Tables.{Front};
 ghost use Rattle.driver.specs.Driver.{Given, Held};
-ghost use Rattle.driver.specs.Asked.{Recalls, RecallsDeclared, Declares};
+ghost use Rattle.driver.specs.Asked.{Recalls, RecallsOne, AsksEach, Declares};
 
 use crate::driver::resolve;
 use crate::tables::{clear_index, is_unknown};
@@ -40,25 +40,48 @@ pub fn ask_type(
     Some(end)
 }
 
+// The same, but where `only` declared types are asked for, another one is left.
 #[tactic(auto, using(crate::proofs::Asking::asks))]
-fn ask_declared(
+fn ask_one(
     file: &File<'_>,
     known: &mut [u32],
     store: &mut [u32],
     end: usize,
     t: u32,
     room: &mut [u32],
+    only: bool,
 ) -> Option<usize>
     requires { Given file.now.source known.old (length room.old) × Held file.now.source (index_in known.old) store.old end × (t < Layout.count file.now.source Layout.types) }
-    ensures { Front known.old known.new × RecallsDeclared file.now.source t (index_in known.old) store.old end result (index_in known.new) store.new }
+    ensures { Front known.old known.new × RecallsOne file.now.source only t (index_in known.old) store.old end result (index_in known.new) store.new }
 {
-    if is_undeclared(&file.source, t) {
+    if only && is_undeclared(&file.source, t) {
         return Some(end);
     }
     ask_type(file, known, store, end, t, room)
 }
 
-// All declared types, in rising number.
+// All types, or only all declared types, in rising number.
+pub fn resolve_each(
+    file: &File<'_>,
+    known: &mut [u32],
+    store: &mut [u32],
+    room: &mut [u32],
+    only: bool,
+) -> Option<usize>
+    requires { Given file.now.source known.old (length room.old) }
+    ensures { Front known.old known.new × AsksEach file.now.source only result (index_in known.new) store.new }
+{
+    clear_index(known);
+    let many = file.source.count(TYPES);
+    let mut end: usize = 0;
+    for t in 0..many {
+        end = ask_one(file, known, store, end, t, room, only)?;
+    }
+    Some(end)
+}
+
+// All declared types.
+#[tactic(auto, using(crate::proofs::Asking::of_each))]
 pub fn resolve_declared(
     file: &File<'_>,
     known: &mut [u32],
@@ -68,17 +91,5 @@ pub fn resolve_declared(
     requires { Given file.now.source known.old (length room.old) }
     ensures { Front known.old known.new × Declares file.now.source result (index_in known.new) store.new }
 {
-    clear_index(known);
-    let many = file.source.count(TYPES);
-    let mut end: usize = 0;
-    let mut t: u32 = 0;
-    while t < many {
-        let stored = ask_declared(file, known, store, end, t, room);
-        match stored {
-            Some(e) => end = e,
-            None => return stored,
-        }
-        t += 1;
-    }
-    Some(end)
+    resolve_each(file, known, store, room, true)
 }

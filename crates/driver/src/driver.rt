@@ -7,8 +7,8 @@ ghost use Rattle.driver.specs.Tables.{Front};
 ghost use Rattle.driver.specs.Driver.{Stores, Settles, Resolves, Given, Begun, Fresh};
 
 use crate::tables::begin_type;
-use crate::work::work_out;
-use build::built::{Built, INDEX_AT};
+use crate::work::{wanted, work_out};
+use build::built::{INDEX_AT, Unbuilt};
 use definition::layout::NODE_WORDS;
 use lines::append::{remember_large, remember_none, remember_tree};
 use records::file::File;
@@ -20,15 +20,15 @@ fn append_line(
     end: usize,
     t: u32,
     room: &[u32],
-    built: Built,
+    built: Result<usize, Unbuilt>,
 ) -> Option<usize>
     ensures { Stores built room.now index.old store.old end t result index.new store.new }
 {
     match built {
-        Built::Ends(e) => remember_tree(index, store, end, t, room, 0, e / NODE_WORDS),
-        Built::None => remember_none(index, store, end, t),
-        Built::TooLarge => remember_large(index, store, end, t),
-        Built::Wanted(_) => None,
+        Ok(e) => remember_tree(index, store, end, t, room, 0, e / NODE_WORDS),
+        Err(Unbuilt::None) => remember_none(index, store, end, t),
+        Err(Unbuilt::TooLarge) => remember_large(index, store, end, t),
+        Err(Unbuilt::Wanted(_)) => None,
     }
 }
 
@@ -39,7 +39,7 @@ fn append(
     end: usize,
     t: u32,
     room: &[u32],
-    built: Built,
+    built: Result<usize, Unbuilt>,
 ) -> Option<usize>
     requires { index_at ≤ length known.old }
     ensures { Front known.old known.new × Stores built room.now (index_in known.old) store.old end t result (index_in known.new) store.new }
@@ -62,15 +62,11 @@ fn settle(
     let mut last = end;
     loop {
         let built = work_out(file, &known[..], &store[..], t, room);
-        let Built::Wanted(d) = built else {
+        let Some(d) = wanted(built) else {
             return append(known, store, last, t, &room[..], built);
         };
         begin_type(known, d);
-        let stored = settle(file, known, store, last, d, room);
-        match stored {
-            Some(e) => last = e,
-            None => return stored,
-        }
+        last = settle(file, known, store, last, d, room)?;
     }
 }
 

@@ -1,91 +1,94 @@
-// The outcome of a type and of a variable, after all declared types, in a store with room for every line.
-ghost use Rattle.std.specs.Prelude.{◌<◌, length};
+// The outcome of a type or of a variable, after all declared types, in a store with room for every line.
+ghost use Rattle.std.specs.Prelude.{◌≡◌, ◌≤◌, ◌<◌, length};
 ghost use Rattle.definition.specs.Layout as Layout;
-ghost use Rattle.definition.specs.Ask.{type_default};
-ghost use Rattle.definition.specs.Starting.{declaration, type_outcome, variable_outcome};
-ghost use Rattle.build.specs.Built.{index_in};
+ghost use Rattle.definition.specs.Answers.{room_words};
+ghost use Rattle.definition.specs.Tree.{flatten};
+ghost use Rattle.build.specs.Built.{index_in, Builds, Ready};
 ghost use Rattle.driver.specs.Driver.{Given, Held};
-ghost use Rattle.driver.specs.Told.{Ample, Tells, TellsOf};
+ghost use Rattle.driver.specs.Told.{Ample, Tells, TellsOf, section_in, number_in, ask_in, outcome_in};
 
-use crate::asked::{ask_type, resolve_declared};
+use crate::asked::resolve_declared;
 use crate::driver::resolve;
-use crate::work::variable;
-use build::built::Built;
+use crate::work::{variable, wanted};
+use build::built::Unbuilt;
 use build::remembered::type_default;
+use definition::layout::{TYPES, VARIABLES};
 use records::file::File;
 
-// A type's outcome, from what is remembered.
-fn tell_type(
+// Whose outcome is asked for.
+#[derive(Clone, Copy)]
+pub enum Owner {
+    Type(u32),
+    Variable(u32),
+}
+
+impl Owner {
+    pub fn section(self) -> usize
+        ensures { result ≡ section_in self }
+    {
+        match self {
+            Owner::Type(_) => TYPES,
+            Owner::Variable(_) => VARIABLES,
+        }
+    }
+
+    pub fn number(self) -> u32
+        ensures { result ≡ number_in self }
+    {
+        match self {
+            Owner::Type(t) => t,
+            Owner::Variable(v) => v,
+        }
+    }
+}
+
+// The outcome from what is remembered, or the first type that is not.
+fn build(
+    file: &File<'_>,
+    known: &[u32],
+    store: &[u32],
+    owner: Owner,
+    room: &mut [u32],
+) -> Result<usize, Unbuilt>
+    requires { Ready file.now.source known.now store.now × (number_in owner < Layout.count file.now.source (section_in owner)) × (room_words file.now.source ≤ length room.old) }
+    ensures { Builds file.now.source known.now store.now flatten (ask_in file.now.source owner) 0 room.old result room.new }
+{
+    match owner {
+        Owner::Type(t) => type_default(&file.source, known, store, t, room, 0),
+        Owner::Variable(v) => variable(file, known, store, v, room),
+    }
+}
+
+// A type that is wanted is resolved first, and the work starts again.
+fn tell(
     file: &File<'_>,
     known: &mut [u32],
     store: &mut [u32],
     end: usize,
-    t: u32,
+    owner: Owner,
     room: &mut [u32],
-) -> Built
-    requires { Given file.now.source known.old (length room.old) × Held file.now.source (index_in known.old) store.old end × (t < Layout.count file.now.source Layout.types) × Ample file.now.source (length store.old) }
-    ensures { TellsOf file.now.source (type_default t) (index_in known.old) store.old end result room.new }
+) -> Result<usize, Unbuilt>
+    requires { Given file.now.source known.old (length room.old) × Held file.now.source (index_in known.old) store.old end × (number_in owner < Layout.count file.now.source (section_in owner)) × Ample file.now.source (length store.old) }
+    ensures { TellsOf file.now.source (ask_in file.now.source owner) (index_in known.old) store.old end result room.new }
 {
-    let stored = ask_type(file, known, store, end, t, room);
-    match stored {
-        Some(last) => type_default(&file.source, &known[..], &store[..], t, room, 0),
-        None => Built::None,
-    }
-}
-
-pub fn type_outcome(
-    file: &File<'_>,
-    known: &mut [u32],
-    store: &mut [u32],
-    t: u32,
-    room: &mut [u32],
-) -> Built
-    requires { Given file.now.source known.old (length room.old) × (t < Layout.count file.now.source Layout.types) × Ample file.now.source (length store.old) }
-    ensures { Tells (type_outcome file.now.source t) result room.new }
-{
-    let stored = resolve_declared(file, known, store, room);
-    match stored {
-        Some(end) => { tell_type(file, known, store, end, t, room) }
-        None => Built::None,
-    }
-}
-
-// A variable's outcome, from what is remembered. A type that it wants is resolved first, and the work starts again.
-fn tell_variable(
-    file: &File<'_>,
-    known: &mut [u32],
-    store: &mut [u32],
-    end: usize,
-    v: u32,
-    room: &mut [u32],
-) -> Built
-    requires { Given file.now.source known.old (length room.old) × Held file.now.source (index_in known.old) store.old end × (v < Layout.count file.now.source Layout.variables) × Ample file.now.source (length store.old) }
-    ensures { TellsOf file.now.source (declaration file.now.source v) (index_in known.old) store.old end result room.new }
-{
-    let built = variable(file, &known[..], &store[..], v, room);
-    let Built::Wanted(d) = built else {
+    let built = build(file, &known[..], &store[..], owner, room);
+    let Some(d) = wanted(built) else {
         return built;
     };
-    let stored = resolve(file, known, store, end, d, room);
-    match stored {
-        Some(e) => { tell_variable(file, known, store, e, v, room) }
-        None => Built::None,
-    }
+    let last = resolve(file, known, store, end, d, room).ok_or(Unbuilt::None)?;
+    tell(file, known, store, last, owner, room)
 }
 
-pub fn variable_outcome(
+pub fn outcome(
     file: &File<'_>,
     known: &mut [u32],
     store: &mut [u32],
-    v: u32,
+    owner: Owner,
     room: &mut [u32],
-) -> Built
-    requires { Given file.now.source known.old (length room.old) × (v < Layout.count file.now.source Layout.variables) × Ample file.now.source (length store.old) }
-    ensures { Tells (variable_outcome file.now.source v) result room.new }
+) -> Result<usize, Unbuilt>
+    requires { Given file.now.source known.old (length room.old) × (number_in owner < Layout.count file.now.source (section_in owner)) × Ample file.now.source (length store.old) }
+    ensures { Tells (outcome_in file.now.source owner) result room.new }
 {
-    let stored = resolve_declared(file, known, store, room);
-    match stored {
-        Some(end) => { tell_variable(file, known, store, end, v, room) }
-        None => Built::None,
-    }
+    let end = resolve_declared(file, known, store, room).ok_or(Unbuilt::None)?;
+    tell(file, known, store, end, owner, room)
 }

@@ -39,7 +39,7 @@ use Rattle.laws.specs.Accepted.{Accepted}
 use Rattle.laws.specs.Decoded.{init-is, inits-none, inits-next}
 use Rattle.laws.specs.Depths.{deepest-at, entry-depth-least}
 use Rattle.laws.specs.Gathers.{Gathered, gathered-parts}
-use Rattle.laws.specs.Steps.{peek-done, peek-give, peek-nothing, peek-ok, peek-none, peek-large, peek-wanted}
+use Rattle.laws.specs.Steps.{peek-done, peek-give, peek-nothing, peek-ok, peek-none}
 use Rattle.laws.specs.Whole.{Good, Goods}
 use Rattle.places.specs.Inside.{PlaceIn}
 use Rattle.tree.specs.Words.{Stand, WroteNode}
@@ -48,27 +48,22 @@ use Rattle.tree.specs.Part.{place}
 use Rattle.tree.proofs.Fields.{found-place, find-there, field_at, place_none, place-named, Named}
 use Rattle.tree.proofs.Stands.{stand-kept}
 use Rattle.tree.proofs.Standing.{wrote-so-is}
-use Rattle.gather.specs.contracts.answers.Listed as listed-tags
-use Rattle.build.specs.contracts.built.Built as built-tags
-use Rattle.gather.specs.contracts.copies.Target as target-tags
-use Rattle.build.specs.declared.built.Built.{Built}
-use Rattle.build.specs.declared.built.Built.TheVariants as built
+use Rattle.build.specs.declared.built.Unbuilt.{Unbuilt}
+use Rattle.build.specs.declared.built.Unbuilt.TheVariants as unbuilt
 use Rattle.gather.specs.declared.answers.Listed.{Listed}
-use Rattle.gather.specs.declared.answers.Listed.TheVariants as listed
 use Rattle.gather.specs.declared.copies.Target.{Target}
-use Rattle.gather.specs.declared.copies.Target.TheVariants as target
-use Rattle.gather.specs.Answers.{Builds, Lists}
-use Rattle.build.specs.Built.{Memory, Ready}
+use Rattle.gather.specs.Answers.{Listing, Builds}
+use Rattle.build.specs.Built.{Built, Memory, Ready}
 use Rattle.gather.specs.Room.{RoomThere, shapes_deep, rooms, Structure, Current, whole}
 use Rattle.gather.specs.Leaves.{simple_of, PutsSimple}
 use Rattle.gather.specs.Elements.{ElementDefaults}
 use Rattle.gather.specs.Copies.{Taken, Takes, CopiesStructure, FillsRest, Heads, SetThere, Sets, Targets, Finds, PutsMember}
 use Rattle.entries.specs.Entries.{run_depth, RunThere, ValuesThere, FieldsThere, ValueThere, ExpandsAll, BuildsArray, values_of, FillsArray, FillsValues, Applies, member_step, SetsMember, BuildsMember, BuildsStructure}
-use Rattle.gather.proofs.Onward.{take_less, lists-as, builds-same, lists-same}
+use Rattle.gather.proofs.Onward.{take_less, lists-as, builds-same, lists-same, peek-stops, some-of, none-of}
 use Rattle.gather.proofs.Copying.{rest-zero}
 use Rattle.entries.proofs.Entering.{lower, current-less, structure-init, structure-depth, array-init, array-depth}
 use Rattle.entries.proofs.Nesting.{fields-some, fields-none}
-use Rattle.gather.proofs.Single.{node_kept}
+use Rattle.build.proofs.leaves.Laws.{node_kept}
 use Rattle.laws.specs.Binds.{then-assoc}
 use Rattle.laws.specs.Gathers.{small-structure}
 use mathlib.Core.Path.{fun_ext}
@@ -82,7 +77,9 @@ use Rattle.tree.specs.Part.{span, find_of}
 use Rattle.tree.proofs.Fields.{goods-parted}
 use Rattle.tree_changes.proofs.Splicing.{part-stands}
 use Rattle.laws.specs.Whole.{nodes_in-join, flatten-length}
-use Rattle.std.specs.Prelude.{None, Option, Some}
+use Rattle.std.specs.Prelude.{Err, None, Ok, Option, Some}
+use Rattle.std.specs.Prelude as std
+use Rattle.std.specs.Option.{ok_or}
 
 -- ---- `array`
 -- a part that was lent, and the whole with it back
@@ -112,15 +109,19 @@ array-is f p first many =
     ∙ sym (then-assoc (element_defaults f (default_of f) p) (λ ds. values_of f p first many ds) (λ ts. give (array_tree ts)))
 
 module _ (f known store : List ℕ) (p : Place) (first many : ℕ) {old : List ℕ} (at : ℕ) {x : Option ℕ} {mid : List ℕ} (u : WroteNode old at (head_words 13 0) x mid) where
-  pub array-short : x ≡ None → BuildsArray f known store p first many old at built.None mid
-  array-short q =
+  -- what `?` hands on: there is room for the head
+  pub array-short : {a : std.Result ℕ Unbuilt} → a ≡ ok_or x unbuilt.None → {why : Unbuilt} → a ≡ Err why → {r : Built} → r ≡ Err why → BuildsArray f known store p first many old at r mid
+  array-short z i q =
       record {
         says = λ M k room.
             let h : at + 6 ≤ length old = omega arith in
-            let v = rw (le-leb (at + 6) (length old) h) at u.says in let n : ◌≡◌ {A = ℕ} 0 1 = cc in absurd (omega arith);
+            let v = rw (le-leb (at + 6) (length old) h) at u.says in
+            let w = (none-of z i q).0 in
+            let n : ◌≡◌ {A = ℕ} 0 1 = cc in
+            absurd (omega arith);
       }
 
-  module _ {from : ℕ} (q : x ≡ Some from) (g : length mid ≡ length old) {r : Listed} {part : List ℕ}
+  module _ {from : ℕ} (q : x ≡ Some from) (g : length mid ≡ length old) {r : Listing} {part : List ℕ}
       (w : FillsArray f known store p first many (take (length mid - from) (drop from mid)) r part)
       {r' : Built} {new : List ℕ} (z : Heads r at from (put_mid from (length mid - from) mid part) r' new) where
     from_is : from ≡ at + 6
@@ -177,19 +178,14 @@ elements-deep M f a p i ts =
     (λ s b c e q. let h = element-shape i e in omega (arith, shape-depth-least f a s h, deepest-at (shape_depth f) 0 (count f shapes) s (omega arith) (omega arith)))
     (λ n e q. absurd (never-ok M ts q)) (λ n e q. absurd (never-ok M ts q)) (λ q. absurd (never-ok M ts q))
 
-module _ (f known store : List ℕ) (p : Place) (first many : ℕ) (old : List ℕ) {d : Listed} {mid : List ℕ} (u : ElementDefaults f known store p old 0 d mid) where
-  pub fill_fails : OneOf (1 ∷ 2 ∷ 3 ∷ []) (tag_of listed-tags.the_type d) → FillsArray f known store p first many old d mid
-  fill_fails o = record { says = λ M k room. go M d o (u.says M k (omega arith)).lists }
-    where
-      go : (M : Memo) (d : Listed) → OneOf (1 ∷ 2 ∷ 3 ∷ []) (tag_of listed-tags.the_type d) → Lists M (element_defaults f (default_of f) p) whole 0 d mid
-          → Lists M (element_defaults f (default_of f) p >>= λ ds. values_of f p first many ds) whole 0 d mid
-      go M (listed.Ends a b c) o h = absurd (miss (1 ∷ 2 ∷ 3 ∷ []) 0 tt o)
-      go M listed.None o h = peek-none M (element_defaults f (default_of f) p) (λ ds. values_of f p first many ds) h
-      go M listed.TooLarge o h = peek-large M (element_defaults f (default_of f) p) (λ ds. values_of f p first many ds) h
-      go M (listed.Wanted n) o h = peek-wanted M (element_defaults f (default_of f) p) (λ ds. values_of f p first many ds) n h
+module _ (f known store : List ℕ) (p : Place) (first many : ℕ) (old : List ℕ) {mid : List ℕ} where
+  -- what `?` hands on
+  pub fill_fails : {u : Unbuilt} → ElementDefaults f known store p old 0 (Err u) mid → {r : Listing} → r ≡ Err u → FillsArray f known store p first many old r mid
+  fill_fails {u} d q =
+      rw q (record { says = λ M k room. peek-stops M (element_defaults f (default_of f) p) (λ ds. values_of f p first many ds) u (d.says M k (omega arith)).lists })
 
-  module _ (gv : Ready f known store) (pin : PlaceIn f p) {end places size : ℕ} (q : d ≡ listed.Ends end places size) (g : length mid ≡ length old) {r : Listed} {new : List ℕ}
-      (w : FillsValues f known store p first many places mid end r new) where
+  module _ {d : Listing} (u : ElementDefaults f known store p old 0 d mid) (gv : Ready f known store) (pin : PlaceIn f p) {front : Listed} (q : d ≡ Ok front) (g : length mid ≡ length old) {r : Listing} {new : List ℕ}
+      (w : FillsValues f known store p first many front.made mid front.end r new) where
     pub fill-filled : FillsArray f known store p first many old r new
     fill-filled =
         record {
@@ -201,9 +197,9 @@ module _ (f known store : List ℕ) (p : Place) (first many : ℕ) (old : List �
         }
 
 -- ---- `fill_values`
-module _ (f known store : List ℕ) (p : Place) (first many places : ℕ) (old : List ℕ) (end : ℕ) {leaf : Place} (q : leaf ≡ leaf_place f p) {r : Listed} {mid : List ℕ}
+module _ (f known store : List ℕ) (p : Place) (first many places : ℕ) (old : List ℕ) (end : ℕ) {leaf : Place} (q : leaf ≡ leaf_place f p) {r : Listing} {mid : List ℕ}
     (w : ExpandsAll f known store first many leaf (record { from = 0; places = places; made = 0; size = 0 }) old end r mid) (g : length mid ≡ length old)
-    {r' : Listed} {new : List ℕ} (z : FillsRest r end places mid r' new) where
+    {r' : Listing} {new : List ℕ} (z : FillsRest r end places mid r' new) where
   pub values-filled : FillsValues f known store p first many places old end r' new
   values-filled =
       record {
@@ -253,7 +249,7 @@ structure-long : (s : List ℕ) (at : ℕ) (ts : Trees) (e : ℕ) → Stand s at
 structure-long s at ts e x = sym (Rattle.tree.proofs.Fields.stands-long s at (structure_tree ts) e x)
 
 module _ {f known store : List ℕ} {first many : ℕ} {p : Place} {old : List ℕ} {at end i upto : ℕ} {s : List ℕ} (y : ApplyInv f known store first many p old at end i upto s) where
-  pub apply-all : many ≤ i → Applies f known store first many p old at end (built.Ends upto) s
+  pub apply-all : i ≡ many → Applies f known store first many p old at end (Ok upto) s
   apply-all h =
       record {
         says = λ M k fields z.
@@ -271,8 +267,7 @@ module _ {f known store : List ℕ} {first many : ℕ} {p : Place} {old : List �
             };
       }
 
-  module _ (gv : Ready f known store) (hr : first + many ≤ count f entries) (h : i < many) {r : Built} {new : List ℕ}
-      (w : SetsMember f known store (first + i) p s at upto r new) where
+  module _ (gv : Ready f known store) (hr : first + many ≤ count f entries) (h : i < many) where
     apply-ready : (M : Memo) (k : Memory f known store M) (fields : Trees) (z : Structure old at end (rooms f (run_depth f first many)) fields)
         → Structure s at upto (12288 + rooms f (entry_depth f (first + i) - 1)) (y.says M k fields z).now
     apply-ready M k fields z =
@@ -287,49 +282,40 @@ module _ {f known store : List ℕ} {first many : ℕ} {p : Place} {old : List �
         let e : many - i ≡ suc (many - (i + 1)) = omega arith in
         ap (λ n. peek M (Defs.members f (inits_at f (first + i) n) p now)) e ∙ members-is M f (first + i) (many - (i + 1)) p now
 
-    pub apply-fails : OneOf (1 ∷ 2 ∷ 3 ∷ []) (tag_of built-tags.the_type r) → Applies f known store first many p old at end r new
-    apply-fails o =
-        record {
-          says = λ M k fields z.
-              let v = y.says M k fields z in
-              let x = w.says M k v.now (apply-ready M k fields z) in
-              record { kept = x.kept ∙ v.kept; builds = go M k fields v.now (v.goes ∙ apply-step M v.now) r o x.sets };
-        }
-      where
-        go : (M : Memo) → Memory f known store M → (fields now : Trees)
-            → peek M (Defs.members f (inits_at f first many) p fields) ≡ peek M (member_step f (first + i) p now (λ changed. Defs.members f (inits_at f (suc (first + i)) (many - (i + 1))) p changed))
-            → (r : Built) → OneOf (1 ∷ 2 ∷ 3 ∷ []) (tag_of built-tags.the_type r) → Sets M (member_step f (first + i) p now) at r new
-            → Builds M (Defs.members f (inits_at f first many) p fields) at r new
-        go M k fields now e (built.Ends n) o x = absurd (miss (1 ∷ 2 ∷ 3 ∷ []) 0 tt o)
-        go M k fields now e built.None o x = e ∙ x _
-        go M k fields now e built.TooLarge o x = e ∙ x _
-        go M k fields now e (built.Wanted d) o x = e ∙ x _
+    module _ {new : List ℕ} where
+      -- what `?` hands on
+      pub apply-fails : {u : Unbuilt} → SetsMember f known store (first + i) p s at upto (Err u) new → {r : Built} → r ≡ Err u → Applies f known store first many p old at end r new
+      apply-fails w q =
+          rw q (record {
+            says = λ M k fields z.
+                let v = y.says M k fields z in
+                let x = w.says M k v.now (apply-ready M k fields z) in
+                record { kept = x.kept ∙ v.kept; builds = v.goes ∙ apply-step M v.now ∙ x.sets _ };
+          })
 
-    pub apply-more : {e : ℕ} → r ≡ built.Ends e → length new ≡ length s → ApplyInv f known store first many p old at end (i + 1) e new
-    apply-more {e} j g =
-        record {
-          long = g ∙ y.long;
-          some = omega arith;
-          says = λ M k fields z.
-              let v = y.says M k fields z in
-              let x = w.says M k v.now (apply-ready M k fields z) in
-              let t : SetThere M (member_step f (first + i) p v.now) at e new = rw j at x.sets in
-              let c : first + (i + 1) ≡ suc (first + i) = omega arith in
-              record {
-                now = t.changed;
-                goes = rw c (v.goes ∙ apply-step M v.now ∙ t.goes (λ changed. Defs.members f (inits_at f (suc (first + i)) (many - (i + 1))) p changed));
-                stands = t.stands;
-                small = t.whole;
-                kept = x.kept ∙ v.kept;
-              };
-        }
+      pub apply-more : {r : Built} → SetsMember f known store (first + i) p s at upto r new → {e : ℕ} → r ≡ Ok e → length new ≡ length s → ApplyInv f known store first many p old at end (i + 1) e new
+      apply-more w {e} j g =
+          record {
+            long = g ∙ y.long;
+            some = omega arith;
+            says = λ M k fields z.
+                let v = y.says M k fields z in
+                let x = w.says M k v.now (apply-ready M k fields z) in
+                let t : SetThere M (member_step f (first + i) p v.now) at e new = rw j at x.sets in
+                let c : first + (i + 1) ≡ suc (first + i) = omega arith in
+                record {
+                  now = t.changed;
+                  goes = rw c (v.goes ∙ apply-step M v.now ∙ t.goes (λ changed. Defs.members f (inits_at f (suc (first + i)) (many - (i + 1))) p changed));
+                  stands = t.stands;
+                  small = t.whole;
+                  kept = x.kept ∙ v.kept;
+                };
+          }
 
 -- ---- `set_member`
 sets_same : (M : Memo) (a b : (Trees → Ask Outcome) → Ask Outcome) (at : ℕ) (r : Built) (s : List ℕ) → ((k : Trees → Ask Outcome) → peek M (b k) ≡ peek M (a k)) → Sets M a at r s → Sets M b at r s
-sets_same M a b at (built.Ends e) s q x = record { changed = x.changed; goes = λ k. q k ∙ x.goes k; stands = x.stands; whole = x.whole }
-sets_same M a b at built.None s q x = λ k. q k ∙ x k
-sets_same M a b at built.TooLarge s q x = λ k. q k ∙ x k
-sets_same M a b at (built.Wanted d) s q x = λ k. q k ∙ x k
+sets_same M a b at (Ok e) s q x = record { changed = x.changed; goes = λ k. q k ∙ x.goes k; stands = x.stands; whole = x.whole }
+sets_same M a b at (Err u) s q x = λ k. q k ∙ x k
 
 abbrev head_of : Trees → Rattle.definition.specs.Tree.Node
 head_of ts = record { name = 0; kind = 14; sign = 0; low = many ts; high = 0; width = 0 }
@@ -409,42 +395,44 @@ module _ (M : Memo) (f : List ℕ) (e : ℕ) (p : Place) (fields : Trees) where
           ∙ peek-none M (done (field_place f p (entry_name f e))) (λ inner. Defs.member f (init_at f e) inner (named 0 n.part) >>= λ t. gathered 0 (assigned (entry_name f e) t fields) >>= k) (peek-done M _ ∙ ap got h)
       go None q = step-missing at q k
 
-module _ (f known store : List ℕ) (e : ℕ) (p : Place) (old : List ℕ) (at end : ℕ) {t : Target} (u : Finds f p e old at t) where
-  pub set-none : OneOf (1 ∷ []) (tag_of target-tags.the_type t) → SetsMember f known store e p old at end built.None old
-  set-none o = record { says = λ M k fields y. record { kept = refl; sets = go M fields y t o u.says } }
+module _ (f known store : List ℕ) (e : ℕ) (p : Place) (old : List ℕ) (at end : ℕ) {t : Option Target} (u : Finds f p e old at t) where
+  -- what `?` hands on
+  pub set-none : {a : std.Result Target Unbuilt} → a ≡ ok_or t unbuilt.None → {why : Unbuilt} → a ≡ Err why → {r : Built} → r ≡ Err why → SetsMember f known store e p old at end r old
+  set-none z i q =
+      let w = none-of z i q in
+      rw w.1 (record { says = λ M k fields y. record { kept = refl; sets = λ k. go M fields y (rw w.0 at u.says) k } })
     where
-      go : (M : Memo) (fields : Trees) → Structure old at end (12288 + rooms f (entry_depth f e - 1)) fields → (t : Target) → OneOf (1 ∷ []) (tag_of target-tags.the_type t) → Targets f p e old at t
+      go : (M : Memo) (fields : Trees) → Structure old at end (12288 + rooms f (entry_depth f e - 1)) fields → Targets f p e old at None
           → (k : Trees → Ask Outcome) → peek M (member_step f e p fields k) ≡ got none
-      go M fields y (target.At a b c d) o x k = absurd (miss (1 ∷ []) 0 tt o)
-      go M fields y target.None o (inl x) k = step-missing M f e p fields (at + 6) (field-missing old at end (entry_name f e) fields (12288 + rooms f (entry_depth f e - 1)) y x) k
-      go M fields y target.None o (inr x) k = step-nowhere M f e p fields (at + 6) x k
+      go M fields y (inl x) k = step-missing M f e p fields (at + 6) (field-missing old at end (entry_name f e) fields (12288 + rooms f (entry_depth f e - 1)) y x) k
+      go M fields y (inr x) k = step-nowhere M f e p fields (at + 6) x k
 
-  module _ {begin upto name : ℕ} {inner : Place} (q : t ≡ target.At begin upto name inner) {r : Built} {mid : List ℕ}
-      (w : BuildsMember f known store e inner begin upto old end r mid) (g : length mid ≡ length old) {r' : Built} {new : List ℕ} (z : PutsMember r at end begin upto name mid r' new) where
+  module _ {field : Target} (q : t ≡ Some field) {r : Built} {mid : List ℕ}
+      (w : BuildsMember f known store e field.place field.begin field.end old end r mid) (g : length mid ≡ length old) {r' : Built} {new : List ℕ} (z : PutsMember r at end field.begin field.end field.name mid r' new) where
     pub set-done : SetsMember f known store e p old at end r' new
     set-done =
         record {
           says = λ M k fields y.
-              let x : Targets f p e old at (target.At begin upto name inner) = rw q at u.says in
-              let pl = field-found-at old at end name begin upto fields (12288 + rooms f (entry_depth f e - 1)) y x.1 in
-              let n = place-named name (at + 6) fields (span begin upto) pl in
-              let c = field-current old at end name begin upto fields (rooms f (entry_depth f e - 1)) y n in
+              let x : Targets f p e old at (Some field) = rw q at u.says in
+              let pl = field-found-at old at end field.name field.begin field.end fields (12288 + rooms f (entry_depth f e - 1)) y x.1 in
+              let n = place-named field.name (at + 6) fields (span field.begin field.end) pl in
+              let c = field-current old at end field.name field.begin field.end fields (rooms f (entry_depth f e - 1)) y n in
               let v = w.says M k n.part c in
-              let m = Defs.member f (init_at f e) inner (named 0 n.part) in
+              let m = Defs.member f (init_at f e) field.place (named 0 n.part) in
               let a : at ≤ end = omega (arith, y.stands.long) in
-              let d = z.says M (Defs.member f (init_at f e) inner (named 0 n.part)) fields
+              let d = z.says M (Defs.member f (init_at f e) field.place (named 0 n.part)) fields
               (record { stands = stand-kept y.stands mid end g (omega arith) v.kept; whole = y.whole; room = omega (arith, y.room) }) pl v.builds in
               record {
                 kept = d.kept ∙ take_less mid old at end a v.kept;
                 sets =
-                    sets_same M (λ k. Defs.member f (init_at f e) inner (named 0 n.part) >>= λ t. gathered 0 (assigned name t fields) >>= k) (member_step f e p fields) at r' new
-                    (λ k. step-found M f e p fields name x.0 n inner x.2 k) d.sets;
+                    sets_same M (λ k. Defs.member f (init_at f e) field.place (named 0 n.part) >>= λ t. gathered 0 (assigned field.name t fields) >>= k) (member_step f e p fields) at r' new
+                    (λ k. step-found M f e p fields field.name x.0 n field.place x.2 k) d.sets;
               };
         }
 
 -- the place that was found
-pub target-in : {f : List ℕ} {p : Place} {e : ℕ} {s : List ℕ} {at : ℕ} {t : Target} → Finds f p e s at t → {b u name : ℕ} {inner : Place} → t ≡ target.At b u name inner → PlaceIn f inner
-target-in x {b} {u} {name} {inner} q = x.inside b u name inner q
+pub target-in : {f : List ℕ} {p : Place} {e : ℕ} {s : List ℕ} {at : ℕ} {t : Option Target} → Finds f p e s at t → {field : Target} → t ≡ Some field → PlaceIn f field.place
+target-in x {field} q = x.inside field q
 
 -- ---- `member`
 abbrev plain : List ℕ
@@ -506,18 +494,17 @@ structure-is : (M : Memo) (f : List ℕ) (is : Inits) (p : Place) (t : Tree)
 unfolding Defaults.expand
 structure-is M f is p t = ap (peek M) (named-fields t (λ fields. Defs.members f is p fields))
 
-module _ (f known store : List ℕ) (first many : ℕ) (p : Place) {begin upto : ℕ} {old : List ℕ} {at : ℕ} {b : Built} {mid : List ℕ} (c : CopiesStructure begin upto old at b mid) where
-  pub over-fails : OneOf (1 ∷ 2 ∷ 3 ∷ []) (tag_of built-tags.the_type b) → BuildsStructure f known store first many p begin upto old at b mid
-  over-fails o = record { says = λ M k t y. record { kept = c.kept; builds = go M t b o (c.says t (current-less y 12288 (omega arith))) } }
+module _ (f known store : List ℕ) (first many : ℕ) (p : Place) {begin upto : ℕ} {old : List ℕ} {at : ℕ} {mid : List ℕ} where
+  -- what `?` hands on
+  pub over-fails : {u : Unbuilt} → CopiesStructure begin upto old at (Err u) mid → {r : Built} → r ≡ Err u → BuildsStructure f known store first many p begin upto old at r mid
+  over-fails {u} c q = rw q (record { says = λ M k t y. record { kept = c.kept; builds = go M t u (c.says t (current-less y 12288 (omega arith))) } })
     where
-      go : (M : Memo) (t : Tree) (b : Built) → OneOf (1 ∷ 2 ∷ 3 ∷ []) (tag_of built-tags.the_type b) → Takes t at b mid
-          → Builds M (Defs.member f (Init.structure (inits_at f first many)) p (named 0 t)) at b mid
-      go M t (built.Ends e) o h = absurd (miss (1 ∷ 2 ∷ 3 ∷ []) 0 tt o)
-      go M t built.None o h = structure-is M f (inits_at f first many) p t ∙ fields-none M t (λ fields. Defs.members f (inits_at f first many) p fields) h
-      go M t built.TooLarge o h = absurd h
-      go M t (built.Wanted d) o h = absurd h
+      go : (M : Memo) (t : Tree) (u : Unbuilt) → Takes t at (Err u) mid → Builds M (Defs.member f (Init.structure (inits_at f first many)) p (named 0 t)) at (Err u) mid
+      go M t unbuilt.None h = structure-is M f (inits_at f first many) p t ∙ fields-none M t (λ fields. Defs.members f (inits_at f first many) p fields) h
+      go M t unbuilt.TooLarge h = absurd h
+      go M t (unbuilt.Wanted d) h = absurd h
 
-  module _ {end : ℕ} (q : b ≡ built.Ends end) (g : length mid ≡ length old) {r : Built} {new : List ℕ} (w : Applies f known store first many p mid at end r new) where
+  module _ {b : Built} (c : CopiesStructure begin upto old at b mid) {end : ℕ} (q : b ≡ Ok end) (g : length mid ≡ length old) {r : Built} {new : List ℕ} (w : Applies f known store first many p mid at end r new) where
     pub over-applied : BuildsStructure f known store first many p begin upto old at r new
     over-applied =
         record {
@@ -544,8 +531,8 @@ module _ (f : List ℕ) (first many : ℕ) where
   pub elements-there : {s : List ℕ} → RoomThere s 0 (12282 + 24576 * (run_depth f first many + shapes_deep f)) → RoomThere s 0 (12282 + 24576 * shapes_deep f)
   elements-there y = record { room = omega (arith, y.room) }
 
-  pub values-there : {known store : List ℕ} {p : Place} {old : List ℕ} {d : Listed} {mid : List ℕ} → ElementDefaults f known store p old 0 d mid → {end places size : ℕ} → d ≡ listed.Ends end places size
-      → length mid ≡ length old → Ready f known store → RoomThere old 0 (12282 + 24576 * (run_depth f first many + shapes_deep f)) → ValuesThere f first many places mid end
+  pub values-there : {known store : List ℕ} {p : Place} {old : List ℕ} {d : Listing} {mid : List ℕ} → ElementDefaults f known store p old 0 d mid → {front : Listed} → d ≡ Ok front
+      → length mid ≡ length old → Ready f known store → RoomThere old 0 (12282 + 24576 * (run_depth f first many + shapes_deep f)) → ValuesThere f first many front.made mid front.end
   values-there {known} {store} {p} {old} {d} {mid} u q g gv y =
       let t = lists-as gv.memo (element_defaults f (default_of f) p) whole 0 mid q (u.says gv.memo gv.memory (omega (arith, y.room))).lists in
       record { trees = t.trees; stands = t.stands; small = t.small; counts = omega (arith, t.counts); room = omega (arith, y.room, t.ends, t.small.room) }
@@ -566,20 +553,22 @@ apply-there {f} {known} {store} {first} {many} {p} {old} {at} {end} {i} {upto} {
     let d = deepest-at (entry_depth f) first many (first + i) (omega arith) (omega arith) in
     record { fields = v.now; there = record { stands = v.stands; whole = v.small; room = omega (arith, z.there.room, y.long, entry-depth-least f gv.accepted (first + i) (omega arith)) } }
 
-pub target-there : (f : List ℕ) (p : Place) (e : ℕ) {old : List ℕ} {at end : ℕ} {t : Target} → Finds f p e old at t → {begin upto name : ℕ} {inner : Place} → t ≡ target.At begin upto name inner → {need : ℕ}
-    → FieldsThere old at end (12288 + need) → ValueThere old begin upto end need
-target-there f p e {old} {at} {end} {t} u {begin} {upto} {name} {inner} q {need} y =
-    let x : Targets f p e old at (target.At begin upto name inner) = rw q at u.says in
-    let pl = field-found-at old at end name begin upto y.fields (12288 + need) y.there x.1 in
-    let n = place-named name (at + 6) y.fields (span begin upto) pl in
-    record { tree = n.part; there = field-current old at end name begin upto y.fields need y.there n }
+pub target-there : (f : List ℕ) (p : Place) (e : ℕ) {old : List ℕ} {at end : ℕ} {t : Option Target} → Finds f p e old at t → {field : Target} → t ≡ Some field → {need : ℕ}
+    → FieldsThere old at end (12288 + need) → ValueThere old field.begin field.end end need
+target-there f p e {old} {at} {end} {t} u {field} q {need} y =
+    let x : Targets f p e old at (Some field) = rw q at u.says in
+    let pl = field-found-at old at end field.name field.begin field.end y.fields (12288 + need) y.there x.1 in
+    let n = place-named field.name (at + 6) y.fields (span field.begin field.end) pl in
+    record { tree = n.part; there = field-current old at end field.name field.begin field.end y.fields need y.there n }
 
-pub over-there : (f : List ℕ) (n : ℕ) {begin upto : ℕ} {old : List ℕ} {at : ℕ} {b : Built} {mid : List ℕ} → CopiesStructure begin upto old at b mid → {end : ℕ} → b ≡ built.Ends end → length mid ≡ length old
+pub over-there : (f : List ℕ) (n : ℕ) {begin upto : ℕ} {old : List ℕ} {at : ℕ} {b : Built} {mid : List ℕ} → CopiesStructure begin upto old at b mid → {end : ℕ} → b ≡ Ok end → length mid ≡ length old
     → ValueThere old begin upto at (rooms f n) → FieldsThere mid at end (rooms f n)
 over-there f n {begin} {upto} {old} {at} {b} {mid} c {end} q g y =
     let d : Taken y.tree at end mid = rw q at (c.says y.tree (current-less y.there 12288 (omega arith))) in
     record { fields = parts y.tree; there = record { stands = d.stands; whole = gathered-parts y.tree y.there.good y.there.few; room = omega (arith, y.there.room) } }
 
-pub ruleset building = (rules, opened, array-short, array-built, fill_fails, fill-filled, values-filled, apply-first, apply-all, apply-fails, apply-more, set-none, set-done, member-array, member-structure, member-simple, over-fails, over-applied)
+pub ruleset building = (rules, opened, some-of, array-short, array-built, fill_fails, fill-filled, values-filled, apply-first, apply-all, apply-fails, apply-more, set-none, set-done, member-array, member-structure, member-simple, over-fails, over-applied)
 
-pub ruleset asked = (lower, fill-there, elements-there, values-there, run-there, apply-there, target-there, over-there, target-in, rest-begins, rest-scaled)
+pub ruleset asked = (lower, fill-there, elements-there, values-there, run-there, apply-there, target-there, over-there, target-in, some-of, rest-begins, rest-scaled)
+
+pub ruleset answering = (asked, fill_fails, values-filled, member-array, member-structure, member-simple, set-done)

@@ -35,8 +35,9 @@ use Rattle.laws.specs.Links.{Link}
 use Rattle.laws.specs.Pointed.{EntryPointed, entry-pointed}
 use Rattle.laws.specs.Steps.{peek-done, peek-nothing, peek-none}
 use Rattle.places.specs.Inside.{PlaceIn, leaf-in}
-use Rattle.gather.specs.declared.answers.Listed.{Listed}
-use Rattle.gather.specs.declared.answers.Listed.TheVariants as listed
+use Rattle.std.specs.Prelude.{Err}
+use Rattle.build.specs.declared.built.Unbuilt.TheVariants as unbuilt
+use Rattle.gather.specs.Answers.{Listing}
 use Rattle.gather.specs.declared.answers.Filling.{Filling}
 use Rattle.build.specs.Built.{Ready}
 use Rattle.gather.specs.Room.{RoomThere, rooms, Fillable, Current}
@@ -171,7 +172,7 @@ simple-is M f below leaf l ds n entry.Unknown o b =
     peek-nothing M ∙ sym (peek-none M (done none) (λ t. added l.places l.made l.size (one t)) (peek-done M none))
 
 module _ {f known store : List ℕ} (g : Ready f known store) (e : ℕ) (h : e < count f entries) {x : Entry} (is : x ≡ entry_at f e)
-    {leaf : Place} {l : Filling} {old : List ℕ} {at : ℕ} {r : Listed} {new : List ℕ} where
+    {leaf : Place} {l : Filling} {old : List ℕ} {at : ℕ} {r : Listing} {new : List ℕ} where
   pub expand-structure : {first many : ℕ} → x ≡ entry.Structure first many → ExpandsStructure f known store first many leaf l old at r new → Expands f known store e leaf l old at r new
   expand-structure {first} {many} q w =
       record { says = λ M k ds y. rw (structure-init f g.accepted e h is q) (w.says M k ds (fillable-less y (rooms f (run_depth f first many)) (omega (arith, structure-depth f g.accepted e h is q)))) }
@@ -195,7 +196,7 @@ module _ {f known store : List ℕ} (g : Ready f known store) (e : ℕ) (h : e <
       }
 
 -- ---- `push_repeat`
-module _ {f known store : List ℕ} (k link : ℕ) {leaf : Place} {l : Filling} {old : List ℕ} {at : ℕ} {r : Listed} {new : List ℕ} where
+module _ {f known store : List ℕ} (k link : ℕ) {leaf : Place} {l : Filling} {old : List ℕ} {at : ℕ} {r : Listing} {new : List ℕ} where
   pub repeats-defaults : link ≡ 0 → PushesDefaults k l old at r new → Repeats f known store k link leaf l old at r new
   unfolding Defaults.expand
   repeats-defaults q w = record { says = λ M kn ds y. rw q (w.says M ds (fillable-less y 12288 (omega arith))) }
@@ -209,13 +210,13 @@ module _ {f known store : List ℕ} (k link : ℕ) {leaf : Place} {l : Filling} 
 
 -- ---- `repeat_entry`
 module _ {f known store : List ℕ} (k e : ℕ) {leaf : Place} {l : Filling} {at : ℕ} where
-  pub entry-many : (old : List ℕ) → l.places < k → RepeatsEntry f known store k e leaf l old at listed.None old
+  pub entry-many : (old : List ℕ) → l.places < k → RepeatsEntry f known store k e leaf l old at (Err unbuilt.None) old
   unfolding Defaults.expand
   entry-many old h =
       record { says = λ M kn ds y. let n = y.defaults.count in record { kept = refl; lists = rw (n, lt-leb k l.places h) (peek-nothing M) } }
 
-  module _ (h : k ≤ l.places) {old : List ℕ} {left : Filling} (s : Remains l left) {r : Listed} {mid : List ℕ} (w : Expands f known store e leaf left old at r mid) (g : length mid ≡ length old)
-      {r' : Listed} {new : List ℕ} (z : PushesCopies r k l mid at r' new) where
+  module _ (h : k ≤ l.places) {old : List ℕ} {left : Filling} (s : Remains l left) {r : Listing} {mid : List ℕ} (w : Expands f known store e leaf left old at r mid) (g : length mid ≡ length old)
+      {r' : Listing} {new : List ℕ} (z : PushesCopies r k l mid at r' new) where
     repeated-is : (M : Memo) (ds : Trees) → many ds ≡ l.places
         → peek M (expand f (Init.repeated k (init_at f e)) leaf ds l.made l.size)
         ≡ peek M (expand f (init_at f e) leaf (rest l.made ds) 0 0 >>= λ ts. copied k ts l.places l.made l.size)
@@ -273,3 +274,5 @@ left_there f e {s} {l} {left} {at} r y =
 pub ruleset lower = (rules, opened, structure-there, repeat-there, member-there, array-there, link-there, left_there, structure-falls, structure-run, repeat-falls, repeat-link, member-falls, array-falls, array-run, run_fits, run-next, link-entry, link-falls, run-falls, members-fall, leaf-inside)
 
 pub ruleset entering = (rules, opened, expand-structure, expand-repeat, expand-simple, repeats-defaults, repeats-entry, entry-many, entry-copied)
+
+pub ruleset expanding = (lower, entering)

@@ -1,11 +1,9 @@
 -- Structures, arrays and runs: the other returns of entries.rt. Assumes nothing.
 use borrow.Enum.Refused.{opened}
 use mathlib.Core.Path.{◌≡◌, refl, ap, sym, ◌∙◌}
-use mathlib.Core.List.{List, [], ◌∷◌}
+use mathlib.Core.List.{List}
 use Prim.Native.Nat.{ℕ, suc, ◌+◌, ◌-◌, ◌*◌, ◌≤◌, ◌<◌}
 use native.Mathlib.Omega.{arith}
-use types.Run.{OneOf, miss}
-use denote.Enum.Declared.{tag_of}
 use borrow.Author.Rules.{rules}
 use borrow.Author.Tests.{eq-eqb, ne_eqb}
 use lib.ListN.{length}
@@ -26,15 +24,13 @@ use Rattle.laws.specs.Depths.{deepest-at, entry-depth-least}
 use Rattle.laws.specs.Gathers.{Gathered, gathered-rest, gathered-parts}
 use Rattle.laws.specs.Steps.{peek-nothing, peek-ok, peek-none, peek-large, peek-wanted}
 use Rattle.laws.specs.Whole.{Good, Goods}
-use Rattle.gather.specs.contracts.answers.Listed as listed-tags
-use Rattle.build.specs.contracts.built.Built as built-tags
-use Rattle.build.specs.declared.built.Built.{Built}
-use Rattle.build.specs.declared.built.Built.TheVariants as built
+use Rattle.std.specs.Prelude.{Err, Ok}
+use Rattle.build.specs.declared.built.Unbuilt.{Unbuilt}
+use Rattle.build.specs.declared.built.Unbuilt.TheVariants as unbuilt
 use Rattle.gather.specs.declared.answers.Listed.{Listed}
-use Rattle.gather.specs.declared.answers.Listed.TheVariants as listed
 use Rattle.gather.specs.declared.answers.Filling.{Filling}
-use Rattle.gather.specs.Answers.{Filled}
-use Rattle.build.specs.Built.{Memory, Ready}
+use Rattle.gather.specs.Answers.{Listing, Filled}
+use Rattle.build.specs.Built.{Built, Memory, Ready}
 use Rattle.gather.specs.Room.{shapes_deep, rooms, Fillable}
 use Rattle.gather.specs.Leaves.{pushed, PushesTree}
 use Rattle.gather.specs.Copies.{Taken, TakesFirst, CopiesDefault, MovesOn}
@@ -76,9 +72,9 @@ first_good : (k : ℕ) (ds : Trees) → Gathered 0 ds → (t : Tree) (us : Trees
 unfolding Good
 first_good k ds g t us q = let h : Goods (tcons t us) = rw q at (gathered-rest k ds g).whole in h.0
 
-module _ (f known store : List ℕ) (first many : ℕ) (leaf : Place) (l : Filling) (old : List ℕ) (at : ℕ) {b : Built} {mid : List ℕ} (c : CopiesDefault l old at b mid) where
-  module _ {end : ℕ} (q : b ≡ built.Ends end) (g : length mid ≡ length old) {r : Built} {new : List ℕ} (w : Applies f known store first many leaf mid at end r new)
-      {r' : Listed} (z : PushesTree r l at r') where
+module _ (f known store : List ℕ) (first many : ℕ) (leaf : Place) (l : Filling) (old : List ℕ) (at : ℕ) {mid : List ℕ} where
+  module _ {b : Built} (c : CopiesDefault l old at b mid) {end : ℕ} (q : b ≡ Ok end) (g : length mid ≡ length old) {r : Built} {new : List ℕ} (w : Applies f known store first many leaf mid at end r new)
+      {r' : Listing} (z : PushesTree r l at r') where
     pub structure-pushed : ExpandsStructure f known store first many leaf l old at r' new
     structure-pushed = record { says = λ M k ds y. go M k ds y (rest l.made ds) refl (c.says ds (fillable-less y 12288 (omega arith))) }
       where
@@ -100,15 +96,16 @@ module _ (f known store : List ℕ) (first many : ℕ) (leaf : Place) (l : Filli
                   (z.says M (ms (parts t)) new v.builds);
             }
 
-  pub structure-fails : OneOf (1 ∷ 2 ∷ 3 ∷ []) (tag_of built-tags.the_type b) → ExpandsStructure f known store first many leaf l old at listed.None mid
-  structure-fails o = record { says = λ M k ds y. go M ds y (rest l.made ds) refl b o (c.says ds (fillable-less y 12288 (omega arith))) }
+  -- what `?` hands on
+  pub structure-fails : {u : Unbuilt} → CopiesDefault l old at (Err u) mid → {r : Listing} → r ≡ Err u → ExpandsStructure f known store first many leaf l old at r mid
+  structure-fails {u} c q = rw q (record { says = λ M k ds y. go M ds y (rest l.made ds) refl u (c.says ds (fillable-less y 12288 (omega arith))) })
     where
-      go : (M : Memo) (ds : Trees) → Fillable old l at (rooms f (run_depth f first many)) ds → (us : Trees) → rest l.made ds ≡ us
-          → (b : Built) → OneOf (1 ∷ 2 ∷ 3 ∷ []) (tag_of built-tags.the_type b) → TakesFirst us at b mid
-          → Filled M (expand f (Init.structure (inits_at f first many)) leaf ds l.made l.size) l old at listed.None mid
-      go M ds y tnil e b o h = record { kept = c.kept; lists = structure-last M f (inits_at f first many) leaf l ds y.defaults.count e }
-      go M ds y (tcons t us) e (built.Ends n) o h = absurd (miss (1 ∷ 2 ∷ 3 ∷ []) 0 tt o)
-      go M ds y (tcons t us) e built.None o h =
+      go : (M : Memo) (ds : Trees) → Fillable old l at (rooms f (run_depth f first many)) ds → (us : Trees) → rest l.made ds ≡ us → (u : Unbuilt) → TakesFirst us at (Err u) mid
+          → Filled M (expand f (Init.structure (inits_at f first many)) leaf ds l.made l.size) l old at (Err u) mid
+      go M ds y tnil e unbuilt.None h = record { kept = c.kept; lists = structure-last M f (inits_at f first many) leaf l ds y.defaults.count e }
+      go M ds y tnil e unbuilt.TooLarge h = let n : ◌≡◌ {A = ℕ} 0 1 = cc in absurd (omega arith)
+      go M ds y tnil e (unbuilt.Wanted d) h = let n : ◌≡◌ {A = ℕ} 0 1 = cc in absurd (omega arith)
+      go M ds y (tcons t us) e unbuilt.None h =
           let ms = Defs.members f (inits_at f first many) leaf in
           record {
             kept = c.kept;
@@ -116,11 +113,11 @@ module _ (f known store : List ℕ) (first many : ℕ) (leaf : Place) (l : Filli
                 structure-first M f (inits_at f first many) leaf l ds y.defaults.count t us e
                 ∙ peek-none M (on_fields t (λ fields. ms fields)) (λ t. added l.places l.made l.size (one t)) (fields-none M t (λ fields. ms fields) h);
           }
-      go M ds y (tcons t us) e built.TooLarge o h = absurd h
-      go M ds y (tcons t us) e (built.Wanted d) o h = absurd h
+      go M ds y (tcons t us) e unbuilt.TooLarge h = absurd h
+      go M ds y (tcons t us) e (unbuilt.Wanted d) h = absurd h
 
 -- what stands for its call
-pub default-there : (f : List ℕ) (n : ℕ) {l : Filling} {old : List ℕ} {at : ℕ} {b : Built} {mid : List ℕ} → CopiesDefault l old at b mid → {end : ℕ} → b ≡ built.Ends end → length mid ≡ length old
+pub default-there : (f : List ℕ) (n : ℕ) {l : Filling} {old : List ℕ} {at : ℕ} {b : Built} {mid : List ℕ} → CopiesDefault l old at b mid → {end : ℕ} → b ≡ Ok end → length mid ≡ length old
     → DefaultsThere old l at (rooms f n) → FieldsThere mid at end (rooms f n)
 default-there f n {l} {old} {at} {b} {mid} c {end} q g y = go (rest l.made y.trees) refl (c.says y.trees (fillable-less y.ready 12288 (omega arith)))
   where
@@ -135,13 +132,14 @@ default-there f n {l} {old} {at} {b} {mid} c {end} q g y = go (rest l.made y.tre
         }
 
 -- ---- `expand_all`
-pub record AllInv (f known store : List ℕ) (first many : ℕ) (leaf : Place) (l : Filling) (old : List ℕ) (at i from to made size : ℕ) (s : List ℕ) : Type 0 where
+pub record AllInv (f known store : List ℕ) (first many : ℕ) (leaf : Place) (l : Filling) (old : List ℕ) (at i from : ℕ) (now : Listed) (s : List ℕ) : Type 0 where
   pub long : length s ≡ length old
   pub some : i ≤ many
   pub says : (M : Memo) → Memory f known store M → (ds : Trees) → Fillable old l at 0 ds → at + 24576 * (run_depth f first many + shapes_deep f) ≤ length old + 6 * suc l.size
-      → Along M (Defs.expand_all f (inits_at f first many) leaf ds l.made l.size) (Defs.expand_all f (inits_at f (first + i) (many - i)) leaf ds made size) l old at ds from to made size s
+      → Along M (Defs.expand_all f (inits_at f first many) leaf ds l.made l.size) (Defs.expand_all f (inits_at f (first + i) (many - i)) leaf ds now.made now.size) l old at ds from now.end now.made now.size s
 
-pub all_first : (f known store : List ℕ) (first many : ℕ) (leaf : Place) (l : Filling) (old : List ℕ) (at : ℕ) → AllInv f known store first many leaf l old at 0 l.from at l.made l.size old
+pub all_first : (f known store : List ℕ) (first many : ℕ) (leaf : Place) (l : Filling) (old : List ℕ) (at : ℕ)
+    → AllInv f known store first many leaf l old at 0 l.from (record { end = at; made = l.made; size = l.size }) old
 all_first f known store first many leaf l old at =
     record {
       long = refl;
@@ -161,21 +159,20 @@ all-is : (M : Memo) (f : List ℕ) (first k : ℕ) (leaf : Place) (ds : Trees) (
 unfolding Defaults.expand
 all-is M f first k leaf ds made size = rw (inits-next f first k)
 
-module _ {f known store : List ℕ} {first many : ℕ} {leaf : Place} {l : Filling} {old : List ℕ} {at i from to made size : ℕ} {s : List ℕ}
-    (y : AllInv f known store first many leaf l old at i from to made size s) where
-  pub all-all : many ≤ i → ExpandsAll f known store first many leaf l old at (listed.Ends to made size) s
+module _ {f known store : List ℕ} {first many : ℕ} {leaf : Place} {l : Filling} {old : List ℕ} {at i from : ℕ} {now : Listed} {s : List ℕ}
+    (y : AllInv f known store first many leaf l old at i from now s) where
+  pub all-all : i ≡ many → ExpandsAll f known store first many leaf l old at (Ok now) s
   unfolding Defaults.expand
   all-all h =
       record {
         says = λ M k ds z room.
             let e : many - i ≡ 0 = omega arith in
-            so-far-all M _ l old at (y.says M k ds z room).far (ap (λ n. Defs.expand_all f (inits_at f (first + i) n) leaf ds made size) e ∙ ap (λ is. Defs.expand_all f is leaf ds made size) (inits-none f (first + i)));
+            so-far-all M _ l old at (y.says M k ds z room).far (ap (λ n. Defs.expand_all f (inits_at f (first + i) n) leaf ds now.made now.size) e ∙ ap (λ is. Defs.expand_all f is leaf ds now.made now.size) (inits-none f (first + i)));
       }
 
-  module _ (gv : Ready f known store) (hr : first + many ≤ count f entries) (h : i < many) {r : Listed} {new : List ℕ}
-      (w : Expands f known store (first + i) leaf (now_at l from made size) s to r new) where
+  module _ (gv : Ready f known store) (hr : first + many ≤ count f entries) (h : i < many) where
     all-ready : (M : Memo) → Memory f known store M → (ds : Trees) → Fillable old l at 0 ds → at + 24576 * (run_depth f first many + shapes_deep f) ≤ length old + 6 * suc l.size
-        → Fillable s (now_at l from made size) to (rooms f (entry_depth f (first + i) - 1)) ds
+        → Fillable s (now_at l from now.made now.size) now.end (rooms f (entry_depth f (first + i) - 1)) ds
     all-ready M k ds z room =
         let v = (y.says M k ds z room).far in
         let d = deepest-at (entry_depth f) first many (first + i) (omega arith) (omega arith) in
@@ -183,43 +180,46 @@ module _ {f known store : List ℕ} {first many : ℕ} {leaf : Place} {l : Filli
         (omega (arith, v.small.room, v.ends, y.long, entry-depth-least f gv.accepted (first + i) (omega arith)))
 
     all-step : (M : Memo) (ds : Trees)
-        → peek M (Defs.expand_all f (inits_at f (first + i) (many - i)) leaf ds made size)
-        ≡ peek M (and_more made size (expand f (init_at f (first + i)) leaf ds made size) (λ m n. Defs.expand_all f (inits_at f (suc (first + i)) (many - (i + 1))) leaf ds m n))
+        → peek M (Defs.expand_all f (inits_at f (first + i) (many - i)) leaf ds now.made now.size)
+        ≡ peek M (and_more now.made now.size (expand f (init_at f (first + i)) leaf ds now.made now.size) (λ m n. Defs.expand_all f (inits_at f (suc (first + i)) (many - (i + 1))) leaf ds m n))
     all-step M ds =
         let e : many - i ≡ suc (many - (i + 1)) = omega arith in
-        ap (λ n. peek M (Defs.expand_all f (inits_at f (first + i) n) leaf ds made size)) e ∙ all-is M f (first + i) (many - (i + 1)) leaf ds made size
+        ap (λ n. peek M (Defs.expand_all f (inits_at f (first + i) n) leaf ds now.made now.size)) e ∙ all-is M f (first + i) (many - (i + 1)) leaf ds now.made now.size
 
-    pub all-fails : OneOf (1 ∷ 2 ∷ 3 ∷ []) (tag_of listed-tags.the_type r) → ExpandsAll f known store first many leaf l old at r new
-    all-fails o =
-        record {
-          says = λ M k ds z room.
-              let v = w.says M k ds (all-ready M k ds z room) in
-              so-far-fails M _ l old at (y.says M k ds z room).far (expand f (init_at f (first + i)) leaf ds made size)
-              (λ m n. Defs.expand_all f (inits_at f (suc (first + i)) (many - (i + 1))) leaf ds m n) (all-step M ds) (now_at l from made size) refl refl refl new r o v.lists v.kept;
-        }
+    module _ {new : List ℕ} where
+      -- what `?` hands on
+      pub all-fails : {u : Unbuilt} → Expands f known store (first + i) leaf (now_at l from now.made now.size) s now.end (Err u) new → {r : Listing} → r ≡ Err u → ExpandsAll f known store first many leaf l old at r new
+      all-fails {u} w q =
+          rw q (record {
+            says = λ M k ds z room.
+                let v = w.says M k ds (all-ready M k ds z room) in
+                so-far-fails M _ l old at (y.says M k ds z room).far (expand f (init_at f (first + i)) leaf ds now.made now.size)
+                (λ m n. Defs.expand_all f (inits_at f (suc (first + i)) (many - (i + 1))) leaf ds m n) (all-step M ds) (now_at l from now.made now.size) refl refl refl new v.lists v.kept refl;
+          })
 
-    pub all_more : {e m n : ℕ} → r ≡ listed.Ends e m n → length new ≡ length s → {from' : ℕ} → MovesOn new from made m from' → AllInv f known store first many leaf l old at (i + 1) from' e m n new
-    all_more {e} {m} {n} j g x =
-        record {
-          long = g ∙ y.long;
-          some = omega arith;
-          says = λ M k ds z room.
-              let v = w.says M k ds (all-ready M k ds z room) in
-              let t = lists-as M _ (now_at l from made size) to new j v.lists in
-              let c : first + (i + 1) ≡ suc (first + i) = omega arith in
-              record {
-                far =
-                    rw c (so_far_more M _ l old at (y.says M k ds z room).far (expand f (init_at f (first + i)) leaf ds made size)
-                    (λ m n. Defs.expand_all f (inits_at f (suc (first + i)) (many - (i + 1))) leaf ds m n) (all-step M ds) (now_at l from made size) refl refl refl new t v.kept g);
-                next = along-next (y.says M k ds z room) t v.kept g x;
-              };
-        }
+      pub all_more : {r : Listing} → Expands f known store (first + i) leaf (now_at l from now.made now.size) s now.end r new → {next : Listed} → r ≡ Ok next → length new ≡ length s
+          → {from' : ℕ} → MovesOn new from now.made next.made from' → AllInv f known store first many leaf l old at (i + 1) from' next new
+      all_more w {next} j g x =
+          record {
+            long = g ∙ y.long;
+            some = omega arith;
+            says = λ M k ds z room.
+                let v = w.says M k ds (all-ready M k ds z room) in
+                let t = lists-as M _ (now_at l from now.made now.size) now.end new j v.lists in
+                let c : first + (i + 1) ≡ suc (first + i) = omega arith in
+                record {
+                  far =
+                      rw c (so_far_more M _ l old at (y.says M k ds z room).far (expand f (init_at f (first + i)) leaf ds now.made now.size)
+                      (λ m n. Defs.expand_all f (inits_at f (suc (first + i)) (many - (i + 1))) leaf ds m n) (all-step M ds) (now_at l from now.made now.size) refl refl refl new t v.kept g);
+                  next = along-next (y.says M k ds z room) t v.kept g x;
+                };
+          }
 
 -- what stands for the next entry
-pub all_there : {f known store : List ℕ} {first many : ℕ} {leaf : Place} {l : Filling} {old : List ℕ} {at i from to made size : ℕ} {s : List ℕ} → AllInv f known store first many leaf l old at i from to made size s
+pub all_there : {f known store : List ℕ} {first many : ℕ} {leaf : Place} {l : Filling} {old : List ℕ} {at i from : ℕ} {now : Listed} {s : List ℕ} → AllInv f known store first many leaf l old at i from now s
     → Ready f known store → first + many ≤ count f entries → i < many → RunThere f first many old l at
-    → DefaultsThere s (now_at l from made size) to (rooms f (entry_depth f (first + i) - 1))
-all_there {f} {known} {store} {first} {many} {leaf} {l} {old} {at} {i} {from} {to} {made} {size} {s} y gv hr h z =
+    → DefaultsThere s (now_at l from now.made now.size) now.end (rooms f (entry_depth f (first + i) - 1))
+all_there {f} {known} {store} {first} {many} {leaf} {l} {old} {at} {i} {from} {now} {s} y gv hr h z =
     let w = y.says gv.memo gv.memory z.trees z.ready z.room in
     let v = w.far in
     let d = deepest-at (entry_depth f) first many (first + i) (omega arith) (omega arith) in

@@ -18,11 +18,9 @@ use Rattle.definition.specs.Depth.{deepest, entry_depth}
 use Rattle.laws.specs.Gathers.{Gathered}
 use Rattle.laws.specs.Links.{Link}
 use Rattle.tree.specs.Words.{Stand}
-use Rattle.build.specs.declared.built.Built.{Built}
-use Rattle.gather.specs.declared.answers.Listed.{Listed}
 use Rattle.gather.specs.declared.answers.Filling.{Filling}
-use Rattle.gather.specs.Answers.{Lists, Placed, Filled}
-use Rattle.build.specs.Built.{Memory}
+use Rattle.gather.specs.Answers.{Listing, Lists, Placed, Filled}
+use Rattle.build.specs.Built.{Built, Memory}
 use Rattle.gather.specs.Room.{shapes_deep, rooms, Fillable, Structure, Current, whole}
 use Rattle.gather.specs.Copies.{SetsKept}
 
@@ -60,26 +58,26 @@ pub record ValueThere (s : List ℕ) (begin end at need : ℕ) : Type 0 where
   pub there : Current s begin end tree at need
 
 -- ---- entries of an array
-pub record Expands (f known store : List ℕ) (e : ℕ) (leaf : Place) (l : Filling) (old : List ℕ) (at : ℕ) (r : Listed) (new : List ℕ) : Type 0 where
+pub record Expands (f known store : List ℕ) (e : ℕ) (leaf : Place) (l : Filling) (old : List ℕ) (at : ℕ) (r : Listing) (new : List ℕ) : Type 0 where
   pub says : (M : Memo) → Memory f known store M → (ds : Trees) → Fillable old l at (rooms f (entry_depth f e - 1)) ds
       → Filled M (expand f (init_at f e) leaf ds l.made l.size) l old at r new
 
 -- a repetition, of the entry that a link leads to, or of each place's own default
-pub record Repeats (f known store : List ℕ) (k link : ℕ) (leaf : Place) (l : Filling) (old : List ℕ) (at : ℕ) (r : Listed) (new : List ℕ) : Type 0 where
+pub record Repeats (f known store : List ℕ) (k link : ℕ) (leaf : Place) (l : Filling) (old : List ℕ) (at : ℕ) (r : Listing) (new : List ℕ) : Type 0 where
   pub says : (M : Memo) → Memory f known store M → (ds : Trees) → Fillable old l at (rooms f (on_link link 0 (entry_depth f))) ds
       → Filled M (expand f (on_link link (Init.defaults k) (λ e. Init.repeated k (init_at f e))) leaf ds l.made l.size) l old at r new
 
-pub record RepeatsEntry (f known store : List ℕ) (k e : ℕ) (leaf : Place) (l : Filling) (old : List ℕ) (at : ℕ) (r : Listed) (new : List ℕ) : Type 0 where
+pub record RepeatsEntry (f known store : List ℕ) (k e : ℕ) (leaf : Place) (l : Filling) (old : List ℕ) (at : ℕ) (r : Listing) (new : List ℕ) : Type 0 where
   pub says : (M : Memo) → Memory f known store M → (ds : Trees) → Fillable old l at (rooms f (entry_depth f e)) ds
       → Filled M (expand f (Init.repeated k (init_at f e)) leaf ds l.made l.size) l old at r new
 
 -- a structure over the next place's default
-pub record ExpandsStructure (f known store : List ℕ) (first count : ℕ) (leaf : Place) (l : Filling) (old : List ℕ) (at : ℕ) (r : Listed) (new : List ℕ) : Type 0 where
+pub record ExpandsStructure (f known store : List ℕ) (first count : ℕ) (leaf : Place) (l : Filling) (old : List ℕ) (at : ℕ) (r : Listing) (new : List ℕ) : Type 0 where
   pub says : (M : Memo) → Memory f known store M → (ds : Trees) → Fillable old l at (rooms f (run_depth f first count)) ds
       → Filled M (expand f (Init.structure (inits_at f first count)) leaf ds l.made l.size) l old at r new
 
 -- a run: the values may have 2,047 nodes in all, and the deepest entry wants its room behind them
-pub record ExpandsAll (f known store : List ℕ) (first count : ℕ) (leaf : Place) (l : Filling) (old : List ℕ) (at : ℕ) (r : Listed) (new : List ℕ) : Type 0 where
+pub record ExpandsAll (f known store : List ℕ) (first count : ℕ) (leaf : Place) (l : Filling) (old : List ℕ) (at : ℕ) (r : Listing) (new : List ℕ) : Type 0 where
   pub says : (M : Memo) → Memory f known store M → (ds : Trees) → Fillable old l at 0 ds → at + 24576 * (run_depth f first count + shapes_deep f) ≤ length old + 6 * suc l.size
       → Filled M (expand_all f (inits_at f first count) leaf ds l.made l.size) l old at r new
 
@@ -91,12 +89,12 @@ pub record BuildsArray (f known store : List ℕ) (place : Place) (first count :
 abbrev pub values_of : List ℕ → Place → ℕ → ℕ → Trees → Ask (Result Trees)
 values_of f place first count ds = expand_all f (inits_at f first count) (leaf_place f place) ds 0 0 >>= λ vs. gathered 0 (filled ds vs)
 
-pub record FillsArray (f known store : List ℕ) (place : Place) (first count : ℕ) (old : List ℕ) (r : Listed) (new : List ℕ) : Type 0 where
+pub record FillsArray (f known store : List ℕ) (place : Place) (first count : ℕ) (old : List ℕ) (r : Listing) (new : List ℕ) : Type 0 where
   pub says : (M : Memo) → Memory f known store M → 12282 + 24576 * (run_depth f first count + shapes_deep f) ≤ length old
       → Lists M (element_defaults f (default_of f) place >>= λ ds. values_of f place first count ds) whole 0 r new
 
 -- its values over the defaults, which stand at the front
-pub record FillsValues (f known store : List ℕ) (place : Place) (first count places : ℕ) (old : List ℕ) (end : ℕ) (r : Listed) (new : List ℕ) : Type 0 where
+pub record FillsValues (f known store : List ℕ) (place : Place) (first count places : ℕ) (old : List ℕ) (end : ℕ) (r : Listing) (new : List ℕ) : Type 0 where
   pub says : (M : Memo) → Memory f known store M → (ds : Trees) → Stand old 0 (flatten_all ds) end → Gathered 0 ds → many ds ≡ places
       → 1 ≤ shapes_deep f → end + 24576 * (run_depth f first count + shapes_deep f) ≤ length old → Lists M (values_of f place first count ds) whole 0 r new
 

@@ -1,6 +1,6 @@
 // Entries: what they append to an array, and what they make of members. Each function calls back into the others; entries point only to entries that nest less
 // deep, and that is what falls.
-#![tactic(auto, using(crate::proofs::Building::asked))]
+#![tactic(auto, using(crate::proofs::Building::answering))]
 
 ghost use Rattle.std.specs.Prelude.{◌≡◌, ◌+◌, ◌-◌, ◌*◌, ◌≤◌, ◌<◌};
 ghost use Rattle.definition.specs.Base.{on_link};
@@ -12,11 +12,11 @@ ghost use Rattle.build.specs.Built.{Ready};
 ghost use Rattle.gather.specs.Room.{RoomThere, shapes_deep, rooms};
 ghost use Rattle.entries.specs.Entries.{run_depth, EntryLink, DefaultsThere, RunThere, ValuesThere, FieldsThere, ValueThere, Expands, Repeats, RepeatsEntry, ExpandsStructure, ExpandsAll, BuildsArray, FillsArray, FillsValues, Applies, SetsMember, BuildsMember, BuildsStructure};
 
-use build::built::Built;
+use build::built::Unbuilt;
 use definition::records::{Entry, Place};
 use gather::answers::{Filling, Listed};
 use gather::copies::{
-    Target, array_head, copy_default, copy_structure, fill_rest, find_field, moved_on, push_copies,
+    array_head, copy_default, copy_structure, fill_rest, find_field, moved_on, push_copies,
     push_defaults, put_member, remaining,
 };
 use gather::defaults::element_defaults;
@@ -27,6 +27,7 @@ use tree::node::write_array;
 
 // The values that an entry appends to an array's, for places like `leaf`, where the array's defaults stand in the room.
 #[cycle(entries_of_places)]
+#[tactic(auto, using(crate::proofs::Entering::expanding))]
 pub fn expand(
     file: &File<'_>,
     known: &[u32],
@@ -36,7 +37,7 @@ pub fn expand(
     l: Filling,
     room: &mut [u32],
     at: usize,
-) -> Listed
+) -> Result<Listed, Unbuilt>
     requires { Ready file.now.source known.now store.now × PlaceIn file.now.source leaf × (e < Layout.count file.now.source entries) × DefaultsThere room.old l at (rooms file.now.source (entry_depth file.now.source e - 1)) }
     ensures { Expands file.now.source known.now store.now e leaf l room.old at result room.new }
 {
@@ -54,6 +55,7 @@ pub fn expand(
 
 // n(..) repeats an entry; n() takes each place's own default.
 #[cycle(entries_of_places)]
+#[tactic(auto, using(crate::proofs::Entering::expanding))]
 pub fn push_repeat(
     file: &File<'_>,
     known: &[u32],
@@ -64,7 +66,7 @@ pub fn push_repeat(
     l: Filling,
     room: &mut [u32],
     at: usize,
-) -> Listed
+) -> Result<Listed, Unbuilt>
     requires { Ready file.now.source known.now store.now × PlaceIn file.now.source leaf × EntryLink file.now.source link × DefaultsThere room.old l at (rooms file.now.source (on_link link 0 (entry_depth file.now.source))) }
     ensures { Repeats file.now.source known.now store.now times link leaf l room.old at result room.new }
 {
@@ -76,6 +78,7 @@ pub fn push_repeat(
 
 // The entry is expanded once, and copied.
 #[cycle(entries_of_places)]
+#[tactic(auto, using(crate::proofs::Entering::expanding))]
 pub fn repeat_entry(
     file: &File<'_>,
     known: &[u32],
@@ -86,12 +89,12 @@ pub fn repeat_entry(
     l: Filling,
     room: &mut [u32],
     at: usize,
-) -> Listed
+) -> Result<Listed, Unbuilt>
     requires { Ready file.now.source known.now store.now × PlaceIn file.now.source leaf × (e < Layout.count file.now.source entries) × DefaultsThere room.old l at (rooms file.now.source (entry_depth file.now.source e)) }
     ensures { RepeatsEntry file.now.source known.now store.now times e leaf l room.old at result room.new }
 {
     if l.places < times as usize {
-        return Listed::None;
+        return Err(Unbuilt::None);
     }
     let left = remaining(l);
     let r = expand(file, known, store, e, leaf, left, room, at);
@@ -110,14 +113,11 @@ pub fn push_structure(
     l: Filling,
     room: &mut [u32],
     at: usize,
-) -> Listed
+) -> Result<Listed, Unbuilt>
     requires { Ready file.now.source known.now store.now × PlaceIn file.now.source leaf × (first + count ≤ Layout.count file.now.source entries) × DefaultsThere room.old l at (rooms file.now.source (run_depth file.now.source first count)) }
     ensures { ExpandsStructure file.now.source known.now store.now first count leaf l room.old at result room.new }
 {
-    let b = copy_default(l, room, at);
-    let Built::Ends(end) = b else {
-        return Listed::None;
-    };
+    let end = copy_default(l, room, at)?;
     let r = apply_members(file, known, store, first, count, leaf, room, at, end);
     push_tree(r, l, at)
 }
@@ -134,50 +134,28 @@ pub fn expand_all(
     l: Filling,
     room: &mut [u32],
     at: usize,
-) -> Listed
+) -> Result<Listed, Unbuilt>
     requires { Ready file.now.source known.now store.now × PlaceIn file.now.source leaf × (first + count ≤ Layout.count file.now.source entries) × RunThere file.now.source first count room.old l at }
     ensures { ExpandsAll file.now.source known.now store.now first count leaf l room.old at result room.new }
 {
-    let mut i: u32 = 0;
     let mut from = l.from;
-    let mut to = at;
-    let mut made = l.made;
-    let mut size = l.size;
-    while i < count {
-        let r = expand(
-            file,
-            known,
-            store,
-            first + i,
-            leaf,
-            Filling {
-                from,
-                places: l.places,
-                made,
-                size,
-            },
-            room,
-            to,
-        );
-        let Listed::Ends {
-            end: e,
-            made: m,
-            size: n,
-        } = r
-        else {
-            return r;
+    let mut done = Listed {
+        end: at,
+        made: l.made,
+        size: l.size,
+    };
+    for i in 0..count {
+        let left = Filling {
+            from,
+            places: l.places,
+            made: done.made,
+            size: done.size,
         };
-        from = moved_on(&room[..], from, made, m);
-        to = e;
-        made = m;
-        size = n;
-        i += 1;
+        let next = expand(file, known, store, first + i, leaf, left, room, done.end)?;
+        from = moved_on(&room[..], from, done.made, next.made);
+        done = next;
     }
-    Listed::Ends {
-        end: to,
-        made,
-        size,
-    }
+    Ok(done)
 }
 
 // An array of a run of entries: its head, then the rest of the room is lent to be filled with them.
@@ -191,17 +169,13 @@ pub fn array(
     count: u32,
     room: &mut [u32],
     at: usize,
-) -> Built
+) -> Result<usize, Unbuilt>
     requires { Ready file.now.source known.now store.now × PlaceIn file.now.source place × (first + count ≤ Layout.count file.now.source entries) × RoomThere room.old at (rooms file.now.source (run_depth file.now.source first count)) }
     ensures { BuildsArray file.now.source known.now store.now place first count room.old at result room.new }
 {
-    match write_array(room, at, 0) {
-        Some(from) => {
-            let r = fill(file, known, store, place, first, count, &mut room[from..]);
-            array_head(r, at, from, room)
-        }
-        None => Built::None,
-    }
+    let from = write_array(room, at, 0).ok_or(Unbuilt::None)?;
+    let r = fill(file, known, store, place, first, count, &mut room[from..]);
+    array_head(r, at, from, room)
 }
 
 // Its element defaults, and the values of the entries over them.
@@ -214,20 +188,22 @@ pub fn fill(
     first: u32,
     count: u32,
     room: &mut [u32],
-) -> Listed
+) -> Result<Listed, Unbuilt>
     requires { Ready file.now.source known.now store.now × PlaceIn file.now.source place × (first + count ≤ Layout.count file.now.source entries) × RoomThere room.old 0 (12282 + 24576 * (run_depth file.now.source first count + shapes_deep file.now.source)) }
     ensures { FillsArray file.now.source known.now store.now place first count room.old result room.new }
 {
-    let d = element_defaults(file, known, store, place, room, 0);
-    let Listed::Ends {
-        end,
-        made: places,
-        size: _,
-    } = d
-    else {
-        return d;
-    };
-    fill_values(file, known, store, place, first, count, places, room, end)
+    let defaults = element_defaults(file, known, store, place, room, 0)?;
+    fill_values(
+        file,
+        known,
+        store,
+        place,
+        first,
+        count,
+        defaults.made,
+        room,
+        defaults.end,
+    )
 }
 
 // The values stand behind the defaults, and take the place of the leading ones.
@@ -242,7 +218,7 @@ pub fn fill_values(
     places: usize,
     room: &mut [u32],
     end: usize,
-) -> Listed
+) -> Result<Listed, Unbuilt>
     requires { Ready file.now.source known.now store.now × PlaceIn file.now.source place × (first + count ≤ Layout.count file.now.source entries) × ValuesThere file.now.source first count places room.old end }
     ensures { FillsValues file.now.source known.now store.now place first count places room.old end result room.new }
 {
@@ -269,21 +245,15 @@ pub fn apply_members(
     room: &mut [u32],
     at: usize,
     end: usize,
-) -> Built
+) -> Result<usize, Unbuilt>
     requires { Ready file.now.source known.now store.now × PlaceIn file.now.source place × (first + count ≤ Layout.count file.now.source entries) × FieldsThere room.old at end (rooms file.now.source (run_depth file.now.source first count)) }
     ensures { Applies file.now.source known.now store.now first count place room.old at end result room.new }
 {
-    let mut i: u32 = 0;
     let mut upto = end;
-    while i < count {
-        let r = set_member(file, known, store, first + i, place, room, at, upto);
-        let Built::Ends(e) = r else {
-            return r;
-        };
-        upto = e;
-        i += 1;
+    for i in 0..count {
+        upto = set_member(file, known, store, first + i, place, room, at, upto)?;
     }
-    Built::Ends(upto)
+    Ok(upto)
 }
 
 // One member of the list.
@@ -297,22 +267,23 @@ pub fn set_member(
     room: &mut [u32],
     at: usize,
     end: usize,
-) -> Built
+) -> Result<usize, Unbuilt>
     requires { Ready file.now.source known.now store.now × PlaceIn file.now.source place × (e < Layout.count file.now.source entries) × FieldsThere room.old at end (12288 + rooms file.now.source (entry_depth file.now.source e - 1)) }
     ensures { SetsMember file.now.source known.now store.now e place room.old at end result room.new }
 {
-    let t = find_field(file, known, e, place, &room[..], at);
-    let Target::At {
-        begin,
-        end: upto,
-        name,
-        place: inner,
-    } = t
-    else {
-        return Built::None;
-    };
-    let r = member(file, known, store, e, inner, begin, upto, room, end);
-    put_member(r, at, end, begin, upto, name, room)
+    let field = find_field(file, known, e, place, &room[..], at).ok_or(Unbuilt::None)?;
+    let r = member(
+        file,
+        known,
+        store,
+        e,
+        field.place,
+        field.begin,
+        field.end,
+        room,
+        end,
+    );
+    put_member(r, at, end, field.begin, field.end, field.name, room)
 }
 
 // What an entry gives a member, whose value so far stands in the room.
@@ -327,7 +298,7 @@ pub fn member(
     upto: usize,
     room: &mut [u32],
     at: usize,
-) -> Built
+) -> Result<usize, Unbuilt>
     requires { Ready file.now.source known.now store.now × PlaceIn file.now.source place × (e < Layout.count file.now.source entries) × ValueThere room.old begin upto at (rooms file.now.source (entry_depth file.now.source e - 1)) }
     ensures { BuildsMember file.now.source known.now store.now e place begin upto room.old at result room.new }
 {
@@ -356,13 +327,10 @@ pub fn member_structure(
     upto: usize,
     room: &mut [u32],
     at: usize,
-) -> Built
+) -> Result<usize, Unbuilt>
     requires { Ready file.now.source known.now store.now × PlaceIn file.now.source place × (first + count ≤ Layout.count file.now.source entries) × ValueThere room.old begin upto at (rooms file.now.source (run_depth file.now.source first count)) }
     ensures { BuildsStructure file.now.source known.now store.now first count place begin upto room.old at result room.new }
 {
-    let b = copy_structure(room, begin, upto, at);
-    let Built::Ends(end) = b else {
-        return b;
-    };
+    let end = copy_structure(room, begin, upto, at)?;
     apply_members(file, known, store, first, count, place, room, at, end)
 }

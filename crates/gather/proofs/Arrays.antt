@@ -2,7 +2,7 @@
 use mathlib.Core.Path.{◌≡◌, refl, ap, sym, ◌∙◌}
 use mathlib.Core.Bool.{Bool, true, false}
 use mathlib.Core.List.{List, [], ◌++◌}
-use Prim.Native.Nat.{ℕ, suc, ◌+◌, ◌-◌, ◌*◌, ◌/◌, ◌^◌, ◌≤◌, ◌<◌}
+use Prim.Native.Nat.{ℕ, suc, ◌+◌, ◌-◌, ◌*◌, ◌/◌, ◌^◌, ◌≤◌, ◌<◌, min}
 use native.Mathlib.Omega.{arith}
 use mir.Syntax.{w64}
 use mir.Val.{Fits}
@@ -17,7 +17,7 @@ use Rattle.definition.specs.Iec.{filled}
 use Rattle.definition.specs.Resolve.{Memo}
 use Rattle.definition.specs.Peek.{got, peek}
 use Rattle.laws.specs.Gathers.{Gathered, good-array, array-nameless}
-use Rattle.laws.specs.Steps.{peek-done, peek-give, peek-ok, peek-none, peek-large, peek-wanted}
+use Rattle.laws.specs.Steps.{peek-done, peek-give, peek-ok}
 use Rattle.laws.specs.Whole.{flatten_all-length, flatten_all-join, goods-filled, nodes-some, nodes-headed}
 use Rattle.tree.specs.declared.extent.Span.{Span}
 use Rattle.tree.specs.Words.{Stand, WroteNode}
@@ -28,14 +28,16 @@ use Rattle.tree.proofs.Fields.{Rest, rest-there}
 use Rattle.tree.proofs.Stands.{stand-rest, rest-stand}
 use Rattle.tree.proofs.Standing.{wrote-so-is, headed-there}
 use Rattle.tree_changes.proofs.Splicing.{spliced-size, spliced-words, many-filled}
-use Rattle.build.specs.declared.built.Built.{Built}
-use Rattle.build.specs.declared.built.Built.TheVariants as built
+use Rattle.build.specs.declared.built.Unbuilt.{Unbuilt}
+use Rattle.build.specs.declared.built.Unbuilt.TheVariants as unbuilt
+use Rattle.build.specs.Built.{Built}
+use Rattle.build.specs.Unfit.{unbuilt_of}
+use Rattle.build.proofs.leaves.Laws.{node_kept}
 use Rattle.gather.specs.declared.answers.Listed.{Listed}
-use Rattle.gather.specs.declared.answers.Listed.TheVariants as listed
+use Rattle.gather.specs.Answers.{Listing, listed}
 use Rattle.gather.specs.Room.{whole}
 use Rattle.gather.specs.Copies.{FillsOver, FillsRest, PutsHead, Heads}
-use Rattle.gather.proofs.Onward.{lists-as, lists-same, builds-same}
-use Rattle.gather.proofs.Single.{node_kept}
+use Rattle.gather.proofs.Onward.{peek-stops, lists-as, lists-same, builds-same}
 use Rattle.std.specs.Prelude.{Err, None, Ok, Option, Some}
 use Rattle.std.specs.Prelude as std
 use Rattle.tree_changes.specs.declared.grow.Unfit.TheVariants as unfit
@@ -133,7 +135,7 @@ module _ (end values made places : ℕ) (old : List ℕ) {x : Option ℕ} (q : x
   module _ {part : ℕ} (i : x ≡ Some part) {g : std.Result ℕ Unfit} {new : List ℕ}
       (w : Replaced old (record { begin = 0; end = end }) (record { begin = 0; end = part }) (record { begin = end; end = values }) g new) where
     module _ {to : ℕ} (j : g ≡ Ok to) {b : Bool} (t : b ≡ leb (suc (0 + to / 6)) most_nodes) where
-      pub over-ends : b ≡ true → FillsOver end values made places old (listed.Ends to places (to / 6)) new
+      pub over-ends : b ≡ true → FillsOver end values made places old (listed to places (to / 6)) new
       over-ends v =
           record {
             says = λ M ds vs dm dg dst vm vf vg vst room. by_size ds vs dm dg dst vm vf vg vst room i w _
@@ -156,7 +158,7 @@ module _ (end values made places : ℕ) (old : List ℕ) {x : Option ℕ} (q : x
                 (λ h z. let n : ◌≡◌ {A = ℕ} 0 1 = cc in absurd (omega arith));
           }
 
-      pub over-head : b ≡ false → FillsOver end values made places old listed.TooLarge new
+      pub over-head : b ≡ false → FillsOver end values made places old (Err unbuilt.TooLarge) new
       over-head v =
           record {
             says = λ M ds vs dm dg dst vm vf vg vst room. by_size ds vs dm dg dst vm vf vg vst room i w _
@@ -168,25 +170,24 @@ module _ (end values made places : ℕ) (old : List ℕ) {x : Option ℕ} (q : x
                 (λ h z. gathered-large M 0 (filled ds vs) (omega arith));
           }
 
-    pub over-large : {u : Unfit} → g ≡ Err u → u ≡ unfit.TooLarge → FillsOver end values made places old listed.TooLarge new
-    over-large h z =
-        let j : g ≡ Err unfit.TooLarge = cc in
-        record {
-          says = λ M ds vs dm dg dst vm vf vg vst room. by_size ds vs dm dg dst vm vf vg vst room i w _
-              (λ h z. let n : ◌≡◌ {A = ℕ} 0 1 = cc in absurd (omega arith))
-              (λ h z. gathered-large M 0 (filled ds vs) (omega arith));
-        }
+    pub over-fails : {u : Unfit} → g ≡ Err u → {r : Listing} → r ≡ Err (unbuilt_of u) → FillsOver end values made places old r new
+    over-fails {u} j {r} p = rw p (go u j)
+      where
+        go : (u : Unfit) → g ≡ Err u → FillsOver end values made places old (Err (unbuilt_of u)) new
+        go unfit.TooLarge j =
+            record {
+              says = λ M ds vs dm dg dst vm vf vg vst room. by_size ds vs dm dg dst vm vf vg vst room i w _
+                  (λ h z. let n : ◌≡◌ {A = ℕ} 0 1 = cc in absurd (omega arith))
+                  (λ h z. gathered-large M 0 (filled ds vs) (omega arith));
+            }
+        go unfit.Outside j =
+            record {
+              says = λ M ds vs dm dg dst vm vf vg vst room. by_size ds vs dm dg dst vm vf vg vst room i w _
+                  (λ h z. let n : ◌≡◌ {A = ℕ} 0 1 = cc in absurd (omega arith))
+                  (λ h z. let n : ◌≡◌ {A = ℕ} 0 1 = cc in absurd (omega arith));
+            }
 
-    pub over-not : {u : Unfit} → g ≡ Err u → u ≡ unfit.Outside → FillsOver end values made places old listed.None new
-    over-not h z =
-        let j : g ≡ Err unfit.Outside = cc in
-        record {
-          says = λ M ds vs dm dg dst vm vf vg vst room. by_size ds vs dm dg dst vm vf vg vst room i w _
-              (λ h z. let n : ◌≡◌ {A = ℕ} 0 1 = cc in absurd (omega arith))
-              (λ h z. let n : ◌≡◌ {A = ℕ} 0 1 = cc in absurd (omega arith));
-        }
-
-  pub over-past : x ≡ None → FillsOver end values made places old listed.None old
+  pub over-past : x ≡ None → {r : Listing} → FillsOver end values made places old r old
   over-past j =
       record {
         says = λ M ds vs dm dg dst vm vf vg vst room.
@@ -194,10 +195,9 @@ module _ (end values made places : ℕ) (old : List ℕ) {x : Option ℕ} (q : x
       }
 
 -- ---- `fill_rest`
-module _ {b : Listed} (end places : ℕ) where
-  pub rest-ends : {values made size : ℕ} → b ≡ listed.Ends values made size → {old : List ℕ} {r : Listed} {new : List ℕ} → FillsOver end values made places old r new
-      → FillsRest b end places old r new
-  rest-ends {values} {made} {size} q {old} {r} {new} w =
+module _ {b : Listing} (end places : ℕ) where
+  pub rest-ends : {v : Listed} → b ≡ Ok v → {old : List ℕ} {r : Listing} {new : List ℕ} → FillsOver end v.end v.made places old r new → FillsRest b end places old r new
+  rest-ends {v} q {old} {r} {new} w =
       record {
         says = λ M m ds l lm ls lp dm dg dst y room.
             let t = lists-as M m l end old q y in
@@ -206,15 +206,8 @@ module _ {b : Listed} (end places : ℕ) where
             (w.says M ds t.trees dm dg dst (omega (arith, t.counts)) (omega (arith, t.few)) (record { whole = t.small.whole; room = omega (arith, t.small.room) }) t.stands room);
       }
 
-  module _ {old : List ℕ} where
-    pub rest-none : b ≡ listed.None → FillsRest b end places old listed.None old
-    rest-none q = record { says = λ M m ds l lm ls lp dm dg dst y room. peek-none M m (λ vs. gathered 0 (filled ds vs)) (lists-as M m l end old q y) }
-
-    pub rest-large : b ≡ listed.TooLarge → FillsRest b end places old listed.TooLarge old
-    rest-large q = record { says = λ M m ds l lm ls lp dm dg dst y room. peek-large M m (λ vs. gathered 0 (filled ds vs)) (lists-as M m l end old q y) }
-
-    pub rest-wanted : {d : ℕ} → b ≡ listed.Wanted d → FillsRest b end places old (listed.Wanted d) old
-    rest-wanted {d} q = record { says = λ M m ds l lm ls lp dm dg dst y room. peek-wanted M m (λ vs. gathered 0 (filled ds vs)) d (lists-as M m l end old q y) }
+  pub rest-fails : {u : Unbuilt} → b ≡ Err u → {r : Listing} → r ≡ Err u → {old : List ℕ} → FillsRest b end places old r old
+  rest-fails {u} q {r} p {old} = record { says = λ M m ds l lm ls lp dm dg dst y room. rw p (peek-stops M m (λ vs. gathered 0 (filled ds vs)) u (lists-as M m l end old q y)) }
 
 -- ---- `put_head`
 array-is : (ts : Trees) → array_tree ts ≡ headed 13 ts
@@ -230,19 +223,19 @@ values-there end from old ts fl st =
     let e : length (flatten_all ts) ≡ end = omega (arith, st.long) in
     rw e at y
 
-pub head-short : (end made at from : ℕ) (old : List ℕ) {b : Bool} → b ≡ leb (from + end) (length old) → b ≡ false → PutsHead end made at from old built.None old
+pub head-short : (end made at from : ℕ) (old : List ℕ) {b : Bool} → b ≡ leb (from + end) (length old) → b ≡ false → PutsHead end made at from old (Err unbuilt.None) old
 head-short end made at from old q i =
     record {
       kept = refl;
       says = λ M ts fr fl mm ee g st. let k = leb-false (from + end) (length old) (sym q ∙ i) in absurd (omega (arith, (values-there end from old ts fl st).fits));
     }
 
-module _ (end made at from : ℕ) {count : ℕ} (cw : made ≤ 2047 → count ≡ made) (old : List ℕ) where
+module _ (end made at from : ℕ) {count : ℕ} (least : count ≡ min made 2047) where
   count-is : (ts : Trees) → made ≡ many ts → Gathered 0 ts → count ≡ many ts
-  count-is ts mm g = cw (omega (arith, many-nodes ts, g.room)) ∙ mm
+  count-is ts mm g = omega (arith, many-nodes ts, g.room)
 
-  module _ {y : Option ℕ} {new : List ℕ} (w : WroteNode old at (head_words 13 count) y new) where
-    pub head-ends : {e : ℕ} → y ≡ Some e → PutsHead end made at from old (built.Ends (from + end)) new
+  module _ {old : List ℕ} {y : Option ℕ} {new : List ℕ} (w : WroteNode old at (head_words 13 count) y new) where
+    pub head-ends : {e : ℕ} → y ≡ Some e → PutsHead end made at from old (Ok (from + end)) new
     head-ends i =
         record {
           kept = node_kept w;
@@ -262,7 +255,7 @@ module _ (end made at from : ℕ) {count : ℕ} (cw : made ≤ 2047 → count �
               };
         }
 
-    pub head-full : y ≡ None → PutsHead end made at from old built.None new
+    pub head-full : y ≡ None → {r : Built} → PutsHead end made at from old r new
     head-full i =
         record {
           kept = node_kept w;
@@ -272,9 +265,9 @@ module _ (end made at from : ℕ) {count : ℕ} (cw : made ≤ 2047 → count �
         }
 
 -- ---- `array_head`
-module _ {b : Listed} (at from : ℕ) where
-  pub heads-ends : {end made size : ℕ} → b ≡ listed.Ends end made size → {old : List ℕ} {r : Built} {new : List ℕ} → PutsHead end made at from old r new → Heads b at from old r new
-  heads-ends {end} {made} {size} q {old} {r} {new} w =
+module _ {b : Listing} (at from : ℕ) where
+  pub heads-ends : {v : Listed} → b ≡ Ok v → {old : List ℕ} {r : Built} {new : List ℕ} → PutsHead v.end v.made at from old r new → Heads b at from old r new
+  heads-ends {v} q {old} {r} {new} w =
       record {
         kept = w.kept;
         says = λ M m fr fl y.
@@ -283,33 +276,7 @@ module _ {b : Listed} (at from : ℕ) where
             (w.says M t.trees fr fl (omega (arith, t.counts)) (omega (arith, t.ends)) t.small t.stands);
       }
 
-  module _ {old : List ℕ} where
-    pub heads-none : b ≡ listed.None → Heads b at from old built.None old
-    heads-none q = record { kept = refl; says = λ M m fr fl y. peek-none M m (λ ts. give (array_tree ts)) (lists-as M m whole 0 (drop from old) q y) }
+  pub heads-fails : {u : Unbuilt} → b ≡ Err u → {r : Built} → r ≡ Err u → {old : List ℕ} → Heads b at from old r old
+  heads-fails {u} q {r} p {old} = record { kept = refl; says = λ M m fr fl y. rw p (peek-stops M m (λ ts. give (array_tree ts)) u (lists-as M m whole 0 (drop from old) q y)) }
 
-    pub heads-large : b ≡ listed.TooLarge → Heads b at from old built.TooLarge old
-    heads-large q = record { kept = refl; says = λ M m fr fl y. peek-large M m (λ ts. give (array_tree ts)) (lists-as M m whole 0 (drop from old) q y) }
-
-    pub heads-wanted : {d : ℕ} → b ≡ listed.Wanted d → Heads b at from old (built.Wanted d) old
-    heads-wanted {d} q = record { kept = refl; says = λ M m fr fl y. peek-wanted M m (λ ts. give (array_tree ts)) d (lists-as M m whole 0 (drop from old) q y) }
-
-pub ruleset laws = (
-  rules,
-  over-ends,
-  over-head,
-  over-large,
-  over-not,
-  over-past,
-  rest-ends,
-  rest-none,
-  rest-large,
-  rest-wanted,
-  head-fits,
-  head-ends,
-  head-full,
-  head-short,
-  heads-ends,
-  heads-none,
-  heads-large,
-  heads-wanted,
-)
+pub ruleset laws = (rules, over-ends, over-head, over-fails, over-past, rest-ends, rest-fails, head-fits, head-ends, head-full, head-short, heads-ends, heads-fails)

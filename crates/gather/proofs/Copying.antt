@@ -1,5 +1,4 @@
 -- A law for each return of copies.rt, and what its calls require. Assumes nothing.
-use borrow.Enum.Refused.{opened}
 use mathlib.Core.Path.{◌≡◌, refl, ap, sym, ◌∙◌}
 use mathlib.Core.Bool.{Bool, true, false, ◌&&◌, ◌||◌}
 use mathlib.Core.List.{List}
@@ -13,7 +12,6 @@ use borrow.Author.Tests.{le-leb, leb-true}
 use lib.Dec.{leb}
 use lib.ListN.{length, take, drop}
 use lib.Seq.{paste}
-use mathlib.Core.Logic.{◌⊎◌, inl, inr, ⊎_elim}
 use Rattle.definition.specs.Tree.{Tree, Trees, node, tnil, tcons, head, parts, many, nodes, nodes_in, flatten, flatten_all, headed, structure_tree, one, times, rest, most_nodes}
 use Rattle.definition.specs.Ask.{Result, none, Ask, ◌>>=◌}
 use Rattle.definition.specs.Parts.{on_first, added, copied}
@@ -21,7 +19,7 @@ use Rattle.definition.specs.Resolve.{Memo}
 use Rattle.definition.specs.Peek.{got, peek}
 use Rattle.laws.specs.Cases.{both}
 use Rattle.laws.specs.Gathers.{gathered-rest}
-use Rattle.laws.specs.Steps.{peek-done, peek-ok, peek-none, peek-large, peek-wanted, peek-nothing}
+use Rattle.laws.specs.Steps.{peek-done, peek-ok, peek-nothing}
 use Rattle.laws.specs.Whole.{Good, Goods, flatten-length, flatten_all-length, nodes-some, many-one, nodes_in-one, flatten_all-one, goods-one, many-rest, many-times, nodes_in-times, nodes_in-rest, goods-times}
 use Rattle.tree.specs.declared.part.Value.{Value}
 use Rattle.tree.specs.declared.part.Value.TheVariants as value
@@ -35,19 +33,21 @@ use Rattle.tree_changes.proofs.Limits.{count_fits, size_fits, added-counts, adde
 use Rattle.tree.proofs.Trees.{whole-there}
 use Rattle.tree.proofs.Fields.{value_there, kind-structure, parts-stand, one-stands, Rest, rest-there}
 use Rattle.tree.proofs.Standing.{wrote-so-is, copied-there, headed-there, repeated-there}
-use Rattle.build.specs.declared.built.Built.{Built}
-use Rattle.build.specs.declared.built.Built.TheVariants as built
+use Rattle.build.specs.declared.built.Unbuilt.{Unbuilt}
+use Rattle.build.specs.declared.built.Unbuilt.TheVariants as unbuilt
+use Rattle.build.specs.Built.{Built}
 use Rattle.gather.specs.declared.answers.Listed.{Listed}
-use Rattle.gather.specs.declared.answers.Listed.TheVariants as listed
 use Rattle.gather.specs.declared.answers.Filling.{Filling}
-use Rattle.gather.specs.Answers.{Lists}
+use Rattle.gather.specs.Answers.{Listing, listed, stopped, Lists}
+use Rattle.gather.specs.Leaves.{unlisted_of, allowed_of}
 use Rattle.gather.specs.Room.{Defaults, Fillable, Current}
 use Rattle.gather.specs.Copies.{TakesFirst, CopiesWords, PushesWords, CopiesFields, CopiesStructure, CopiesDefault, MovesOn, Remains, CopiesList, PushesCopies, NextDefault}
-use Rattle.gather.proofs.Onward.{lists-as, lists-same}
-use Rattle.gather.proofs.Single.{paste-kept, wrote_kept, node_kept}
+use Rattle.gather.proofs.Onward.{peek-stops, lists-as, lists-same}
+use Rattle.gather.proofs.Single.{allowed-err}
+use Rattle.build.proofs.leaves.Laws.{paste-kept, wrote_kept, node_kept}
 use Rattle.std.specs.Prelude.{Err, None, Ok, Option, Some}
 use Rattle.std.specs.Prelude as std
-use Rattle.tree_changes.specs.declared.grow.Unfit.TheVariants as unfit
+use Rattle.std.specs.Option.{unwrap_or}
 use Rattle.tree_changes.specs.declared.grow.Unfit.{Unfit}
 use Rattle.tree_changes.specs.declared.limit.Misfit.TheVariants as misfit
 use Rattle.tree_changes.specs.declared.limit.Misfit.{Misfit}
@@ -96,7 +96,7 @@ module _ {begin end : ℕ} (count : ℕ) {old : List ℕ} {at : ℕ} {x : Option
     fields-kept : take at new ≡ take at old
     fields-kept = node_kept u ∙ w.kept
 
-    pub fields-end : {e : ℕ} → y ≡ Some e → CopiesFields begin end count old at (built.Ends to) new
+    pub fields-end : {e : ℕ} → y ≡ Some e → CopiesFields begin end count old at (Ok to) new
     fields-end i =
         record {
           kept = fields-kept;
@@ -113,8 +113,8 @@ module _ {begin end : ℕ} (count : ℕ) {old : List ℕ} {at : ℕ} {x : Option
               };
         }
 
-    pub fields-full : y ≡ None → CopiesFields begin end count old at built.None new
-    fields-full i =
+    pub fields-full : y ≡ None → {r : Built} → r ≡ Err unbuilt.None → CopiesFields begin end count old at r new
+    fields-full i p = rw p
         record {
           kept = fields-kept;
           says = λ t c k n.
@@ -124,8 +124,8 @@ module _ {begin end : ℕ} (count : ℕ) {old : List ℕ} {at : ℕ} {x : Option
               let n : ◌≡◌ {A = ℕ} 0 1 = cc in absurd (omega arith);
         }
 
-  pub fields-not : x ≡ None → CopiesFields begin end count old at built.None mid
-  fields-not q = record { kept = w.kept; says = λ t c k n. let z = fields-words t c in let n : ◌≡◌ {A = ℕ} 0 1 = cc z.0 in absurd (omega arith) }
+  pub fields-not : x ≡ None → {r : Built} → r ≡ Err unbuilt.None → CopiesFields begin end count old at r mid
+  fields-not q p = rw p record { kept = w.kept; says = λ t c k n. let z = fields-words t c in let n : ◌≡◌ {A = ℕ} 0 1 = cc z.0 in absurd (omega arith) }
 
 -- ---- `copy_structure`
 value-structure : (t : Tree) → (head t).kind ≡ 14 → value_is t ≡ value.Structure (many (parts t))
@@ -144,10 +144,10 @@ module _ (begin end : ℕ) {old : List ℕ} (at : ℕ) {v : Option Value} (q : v
             w.says t c z.0 z.1;
       }
 
-  pub structure-none : v ≡ None → CopiesStructure begin end old at built.None old
-  structure-none i = record { kept = refl; says = λ t c k. let y = value_there old begin t end c.good c.stands in cc }
+  pub structure-none : v ≡ None → {r : Built} → r ≡ Err unbuilt.None → CopiesStructure begin end old at r old
+  structure-none i p = rw p record { kept = refl; says = λ t c k. let y = value_there old begin t end c.good c.stands in cc }
 
-  pub structure-other : {x : Value} → v ≡ Some x → ((count : ℕ) → x ≡ value.Structure count → ⊥) → CopiesStructure begin end old at built.None old
+  pub structure-other : {x : Value} → v ≡ Some x → ((count : ℕ) → x ≡ value.Structure count → ⊥) → CopiesStructure begin end old at (Err unbuilt.None) old
   structure-other {x} i o =
       record {
         kept = refl;
@@ -205,21 +205,26 @@ module _ (l : Filling) {old : List ℕ} (at : ℕ) {x : Option ℕ} (q : x ≡ w
       go ds y tnil e = absurd (some_left y h e)
       go ds y (tcons t us) e = w.says t (next-current y (sym q ∙ i) t us e)
 
-  pub default-not : x ≡ None → CopiesDefault l old at built.None old
-  default-not i = record { kept = refl; says = λ ds y. go ds y (rest l.made ds) refl }
+  pub default-not : x ≡ None → {r : Built} → r ≡ Err unbuilt.None → CopiesDefault l old at r old
+  default-not i p = rw p record { kept = refl; says = λ ds y. go ds y (rest l.made ds) refl }
     where
-      go : (ds : Trees) → Fillable old l at 12288 ds → (us : Trees) → rest l.made ds ≡ us → TakesFirst us at built.None old
+      go : (ds : Trees) → Fillable old l at 12288 ds → (us : Trees) → rest l.made ds ≡ us → TakesFirst us at (Err unbuilt.None) old
       go ds y tnil e = refl
       go ds y (tcons t us) e = let n = next-in y t us e in let z : ◌≡◌ {A = ℕ} 0 1 = cc n.is in absurd (omega arith)
 
-pub default-past : (l : Filling) (old : List ℕ) (at : ℕ) → l.places ≤ l.made → CopiesDefault l old at built.None old
+pub default-past : (l : Filling) (old : List ℕ) (at : ℕ) → l.places ≤ l.made → CopiesDefault l old at (Err unbuilt.None) old
 default-past l old at h = record { kept = refl; says = λ ds y. go ds y (rest l.made ds) refl }
   where
-    go : (ds : Trees) → Fillable old l at 12288 ds → (us : Trees) → rest l.made ds ≡ us → TakesFirst us at built.None old
+    go : (ds : Trees) → Fillable old l at 12288 ds → (us : Trees) → rest l.made ds ≡ us → TakesFirst us at (Err unbuilt.None) old
     go ds y tnil e = refl
     go ds y (tcons t us) e = absurd (past-none y h t us e)
 
 -- ---- `push_words`
+-- what does not fit is what the definition stops with
+misfit-stops : (m : Misfit) (ts : Trees) → got (outcome_of (Err m) ts) ≡ stopped (unlisted_of m)
+misfit-stops misfit.TooMany ts = refl
+misfit-stops misfit.TooLarge ts = refl
+
 module _ (begin end : ℕ) (l : Filling) (old : List ℕ) (at : ℕ) {n : ℕ} (counts : (k : ℕ) → end ≡ begin + 6 * k → n ≡ k) {a : Added} (q : a ≡ added_of l.places l.made l.size 1 n) where
   -- its nodes are counted
   words_count : (t : Tree) → Current old begin end t at 0 → n ≡ nodes t
@@ -234,13 +239,10 @@ module _ (begin end : ℕ) (l : Filling) (old : List ℕ) (at : ℕ) {n : ℕ} (
       let f : added_of l.places l.made l.size (many (one t)) (nodes_in (one t)) ≡ a = rw (d, e) (sym q) in
       ap (peek M) (added_is l.places l.made l.size (one t)) ∙ peek-done M _ ∙ ap (λ x. got (outcome_of x (one t))) f
 
-  pub words-many : {u : Misfit} → a ≡ Err u → u ≡ misfit.TooMany → PushesWords begin end l old at listed.None old
-  words-many h z =
-      let i : a ≡ Err misfit.TooMany = cc in record { kept = refl; says = λ M t c room. words-peek M t c ∙ ap (λ x. got (outcome_of x (one t))) i }
-
-  pub words-large : {u : Misfit} → a ≡ Err u → u ≡ misfit.TooLarge → PushesWords begin end l old at listed.TooLarge old
-  words-large h z =
-      let i : a ≡ Err misfit.TooLarge = cc in record { kept = refl; says = λ M t c room. words-peek M t c ∙ ap (λ x. got (outcome_of x (one t))) i }
+  pub words-not : {w : std.Result (Unit {0}) Unbuilt} → w ≡ allowed_of a → {u : Unbuilt} → w ≡ Err u → {r : Listing} → r ≡ Err u → PushesWords begin end l old at r old
+  words-not k {u} i {r} p =
+      let z = allowed-err a k i in
+      record { kept = refl; says = λ M t c room. rw (p, ← z.why) (words-peek M t c ∙ ap (λ x. got (outcome_of x (one t))) z.is ∙ misfit-stops z.misfit (one t)) }
 
   module _ {u : Unit {0}} (i : a ≡ Ok u) {y : Option ℕ} {new : List ℕ} (w : CopiesWords begin end old at y new) where
     words-there : (t : Tree) → Current old begin end t at 0 → at + 12282 ≤ length old + 6 * l.size
@@ -249,7 +251,7 @@ module _ (begin end : ℕ) (l : Filling) (old : List ℕ) (at : ℕ) {n : ℕ} (
         let z = added-counts l.places l.made l.size 1 n (sym q ∙ i) in
         w.says (flatten t) c.stands c.before (omega (arith, z.0, words_count t c, flatten-length t))
 
-    pub words-pushed : {to : ℕ} → y ≡ Some to → PushesWords begin end l old at (listed.Ends to (l.made + 1) (l.size + n)) new
+    pub words-pushed : {to : ℕ} → y ≡ Some to → PushesWords begin end l old at (listed to (l.made + 1) (l.size + n)) new
     words-pushed {to} j =
         record {
           kept = w.kept;
@@ -273,29 +275,29 @@ module _ (begin end : ℕ) (l : Filling) (old : List ℕ) (at : ℕ) {n : ℕ} (
               };
         }
 
-    pub words-full : y ≡ None → PushesWords begin end l old at listed.None new
-    words-full j = record { kept = w.kept; says = λ M t c room. let v = words-there t c room in let n : ◌≡◌ {A = ℕ} 0 1 = cc v.0 in absurd (omega arith) }
+    pub words-full : y ≡ None → {r : Listing} → r ≡ Err unbuilt.None → PushesWords begin end l old at r new
+    words-full j p = rw p record { kept = w.kept; says = λ M t c room. let v = words-there t c room in let n : ◌≡◌ {A = ℕ} 0 1 = cc v.0 in absurd (omega arith) }
 
 -- ---- `next_default`
 abbrev next : Filling → Trees → Ask (Result Trees)
 next l us = on_first us (λ t ts. added l.places l.made l.size (one t))
 
 module _ (l : Filling) (old : List ℕ) (at : ℕ) {x : Option ℕ} (q : x ≡ whole_of old l.from) (h : l.made < l.places) where
-  pub next-pushed : {e : ℕ} → x ≡ Some e → {r : Listed} {new : List ℕ} → PushesWords l.from e l old at r new → NextDefault l old at r new
+  pub next-pushed : {e : ℕ} → x ≡ Some e → {r : Listing} {new : List ℕ} → PushesWords l.from e l old at r new → NextDefault l old at r new
   next-pushed {e} i {r} {new} w = record { kept = w.kept; says = λ M ds z room. go M ds z room (rest l.made ds) refl }
     where
       go : (M : Memo) (ds : Trees) → Fillable old l at 0 ds → at + 12282 ≤ length old + 6 * l.size → (us : Trees) → rest l.made ds ≡ us → Lists M (next l us) l at r new
       go M ds z room tnil p = absurd (some_left z h p)
       go M ds z room (tcons t us) p = w.says M t (next-current z (sym q ∙ i) t us p) room
 
-  pub next-not : x ≡ None → NextDefault l old at listed.None old
-  next-not i = record { kept = refl; says = λ M ds z room. go M ds z (rest l.made ds) refl }
+  pub next-not : x ≡ None → {r : Listing} → r ≡ Err unbuilt.None → NextDefault l old at r old
+  next-not i p = rw p record { kept = refl; says = λ M ds z room. go M ds z (rest l.made ds) refl }
     where
-      go : (M : Memo) (ds : Trees) → Fillable old l at 0 ds → (us : Trees) → rest l.made ds ≡ us → Lists M (next l us) l at listed.None old
+      go : (M : Memo) (ds : Trees) → Fillable old l at 0 ds → (us : Trees) → rest l.made ds ≡ us → Lists M (next l us) l at (Err unbuilt.None) old
       go M ds z tnil p = absurd (some_left z h p)
       go M ds z (tcons t us) p = let n = next-in z t us p in let n : ◌≡◌ {A = ℕ} 0 1 = cc n.is in absurd (omega arith)
 
-pub next_past : (l : Filling) (old : List ℕ) (at : ℕ) → l.places ≤ l.made → NextDefault l old at listed.None old
+pub next_past : (l : Filling) (old : List ℕ) (at : ℕ) → l.places ≤ l.made → NextDefault l old at (Err unbuilt.None) old
 next_past l old at h = record { kept = refl; says = λ M ds y room. go M ds y (rest l.made ds) refl }
   where
     go : (M : Memo) (ds : Trees) → Fillable old l at 0 ds → (us : Trees) → rest l.made ds ≡ us
@@ -325,7 +327,7 @@ module _ {s : List ℕ} (from made more : ℕ) {k : ℕ} (c : k ≡ more - made)
       let n : made + k ≡ more = omega arith in
       rw (rest-rest made k ds, n) at (rest-there s from (rest made ds) d.end k (gathered-rest made ds d.whole).whole d.stands (omega (arith, many-rest made ds, d.count)))
 
-  pub moved-from : {b : ℕ} → x ≡ Some b → MovesOn s from made more b
+  moved-from : {b : ℕ} → x ≡ Some b → MovesOn s from made more b
   moved-from {b} i =
       record {
         says = λ places ds upto d h e.
@@ -334,8 +336,15 @@ module _ {s : List ℕ} (from made more : ℕ) {k : ℕ} (c : k ≡ more - made)
             record { end = d.end; stands = rw j at r.stands; before = d.before; whole = d.whole; count = d.count };
       }
 
-  pub moved-not : x ≡ None → (r : ℕ) → MovesOn s from made more r
+  moved-not : x ≡ None → (r : ℕ) → MovesOn s from made more r
   moved-not i r = record { says = λ places ds upto d h e. let n = moved-rest places ds upto d h e in let z : ◌≡◌ {A = ℕ} 0 1 = cc n.is in absurd (omega arith) }
+
+  pub moved : {r : ℕ} → r ≡ unwrap_or x from → MovesOn s from made more r
+  moved {r} p = go x refl p
+    where
+      go : (y : Option ℕ) → x ≡ y → r ≡ unwrap_or y from → MovesOn s from made more r
+      go (Some b) i p = rw p (moved-from i)
+      go None i p = moved-not i r
 
 -- ---- `remaining`
 pub remains-from : (l : Filling) {p : ℕ} → p ≡ l.places - l.made → Remains l (record { from = l.from; places = p; made = 0; size = 0 })
@@ -468,7 +477,7 @@ module _ (values nodes k : ℕ) (l : Filling) (at : ℕ) {a : Added} (q : a ≡ 
       list-new : new ≡ paste old at (rept k (take (nodes * 6) (drop at old))) (nodes * 6 * k)
       list-new = rw (le-leb (suc (k * nodes)) most_nodes list-few, le-leb (at + nodes * 6) (length old) list-first, le-leb (at + nodes * 6 * k) (length old) list-room) at w.is
 
-    pub list-ends : {z : ℕ} → g ≡ Ok z → CopiesList values nodes k l old at (listed.Ends z (l.made + k * values) (l.size + k * nodes)) new
+    pub list-ends : {z : ℕ} → g ≡ Ok z → CopiesList values nodes k l old at (listed z (l.made + k * values) (l.size + k * nodes)) new
     list-ends {z} j =
         record {
           kept = list-kept;
@@ -488,55 +497,36 @@ module _ (values nodes k : ℕ) (l : Filling) (at : ℕ) {a : Added} (q : a ≡ 
               };
         }
 
-    pub list-not : {r : std.Result ℕ Unfit} → g ≡ r → (r ≡ (Err unfit.TooLarge)) ⊎ (r ≡ (Err unfit.Outside)) → CopiesList values nodes k l old at listed.None new
-    list-not {r} j o =
-        record {
-          kept = list-kept;
-          says = λ M ts e x good m n f s room. absurd (⊎_elim
-              (λ p. let z : ◌≡◌ {A = ℕ} 0 1 = cc (list-says ts x n s room) in omega arith)
-              (λ p. let z : ◌≡◌ {A = ℕ} 0 1 = cc (list-says ts x n s room) in omega arith) o);
-        }
+    -- what was counted is repeated
+    pub list-not : {u : Unfit} → g ≡ Err u → {r : Listing} → CopiesList values nodes k l old at r new
+    list-not {u} j =
+        record { kept = list-kept; says = λ M ts e x good m n f s room. let z : ◌≡◌ {A = ℕ} 0 1 = cc (list-says ts x n s room) in absurd (omega arith) }
 
-    pub list-not-large : {u : Unfit} → g ≡ Err u → u ≡ unfit.TooLarge → CopiesList values nodes k l old at listed.None new
-    list-not-large a b =
-        let j : g ≡ Err unfit.TooLarge = cc in list-not j (inl refl)
-
-    pub list-not-there : {u : Unfit} → g ≡ Err u → u ≡ unfit.Outside → CopiesList values nodes k l old at listed.None new
-    list-not-there a b =
-        let j : g ≡ Err unfit.Outside = cc in list-not j (inr refl)
-
-  pub list-large : (old : List ℕ) → {u : Misfit} → a ≡ Err u → u ≡ misfit.TooLarge → CopiesList values nodes k l old at listed.TooLarge old
-  list-large old h z =
-      let i : a ≡ Err misfit.TooLarge = cc in record { kept = refl; says = λ M ts e x g m n f s room. copied-peek values nodes k l q M ts m n ∙ ap (λ c. got (outcome_of c (times k ts))) i }
-
-  pub list-many : (old : List ℕ) → {u : Misfit} → a ≡ Err u → u ≡ misfit.TooMany → CopiesList values nodes k l old at listed.None old
-  list-many old h z =
-      let i : a ≡ Err misfit.TooMany = cc in record { kept = refl; says = λ M ts e x g m n f s room. copied-peek values nodes k l q M ts m n ∙ ap (λ c. got (outcome_of c (times k ts))) i }
+  pub list-fails : (old : List ℕ) → {w : std.Result (Unit {0}) Unbuilt} → w ≡ allowed_of a → {u : Unbuilt} → w ≡ Err u → {r : Listing} → r ≡ Err u → CopiesList values nodes k l old at r old
+  list-fails old d {u} i {r} p =
+      let z = allowed-err a d i in
+      record {
+        kept = refl;
+        says = λ M ts e x g m n f s room. rw (p, ← z.why) (copied-peek values nodes k l q M ts m n ∙ ap (λ c. got (outcome_of c (times k ts))) z.is ∙ misfit-stops z.misfit (times k ts));
+      }
 
 -- ---- `push_copies`
 abbrev copying_of : ℕ → Filling → Trees → Ask (Result Trees)
 copying_of k l ts = copied k ts l.places l.made l.size
 
-module _ {b : Listed} (k : ℕ) (l : Filling) where
-  pub copies-ends : {e made size : ℕ} → b ≡ listed.Ends e made size → {old : List ℕ} {at : ℕ} {r : Listed} {new : List ℕ} → CopiesList made size k l old at r new → PushesCopies b k l old at r new
-  copies-ends {e} {made} {size} q {old} {at} {r} {new} w =
+module _ {b : Listing} (k : ℕ) (l : Filling) where
+  pub copies-ends : {v : Listed} → b ≡ Ok v → {old : List ℕ} {at : ℕ} {r : Listing} {new : List ℕ} → CopiesList v.made v.size k l old at r new → PushesCopies b k l old at r new
+  copies-ends {v} q {old} {at} {r} {new} w =
       record {
         kept = w.kept;
         says = λ M m i a z y f s room.
             let t = lists-as M m i at old q y in
             lists-same M (copying_of k l t.trees) (m >>= copying_of k l) l at r new (peek-ok M m (copying_of k l) t.trees t.is)
-            (w.says M t.trees e t.stands t.small.whole (omega (arith, t.counts)) (omega (arith, t.sizes)) f s room);
+            (w.says M t.trees v.end t.stands t.small.whole (omega (arith, t.counts)) (omega (arith, t.sizes)) f s room);
       }
 
-  module _ {old : List ℕ} {at : ℕ} where
-    pub copies-none : b ≡ listed.None → PushesCopies b k l old at listed.None old
-    copies-none q = record { kept = refl; says = λ M m i a z y f s room. peek-none M m (copying_of k l) (lists-as M m i at old q y) }
-
-    pub copies-large : b ≡ listed.TooLarge → PushesCopies b k l old at listed.TooLarge old
-    copies-large q = record { kept = refl; says = λ M m i a z y f s room. peek-large M m (copying_of k l) (lists-as M m i at old q y) }
-
-    pub copies-wanted : {d : ℕ} → b ≡ listed.Wanted d → PushesCopies b k l old at (listed.Wanted d) old
-    copies-wanted {d} q = record { kept = refl; says = λ M m i a z y f s room. peek-wanted M m (copying_of k l) d (lists-as M m i at old q y) }
+  pub copies-fails : {u : Unbuilt} → b ≡ Err u → {r : Listing} → r ≡ Err u → {old : List ℕ} {at : ℕ} → PushesCopies b k l old at r old
+  copies-fails {u} q {r} p {old} {at} = record { kept = refl; says = λ M m i a z y f s room. rw p (peek-stops M m (copying_of k l) u (lists-as M m i at old q y)) }
 
 pub ruleset laws = (
   rules,
@@ -554,11 +544,10 @@ pub ruleset laws = (
   next-pushed,
   next-not,
   next_past,
-  moved-from,
-  moved-not,
+  moved,
   remains-from,
 )
 
-pub ruleset pushes = (rules, opened, count_fits, size_fits, words-many, words-large, words-pushed, words-full)
+pub ruleset pushes = (rules, count_fits, size_fits, words-not, words-pushed, words-full)
 
-pub ruleset lists = (rules, opened, made-mul, made-add, size-mul, size-add, list-ends, list-not-large, list-not-there, list-large, list-many, copies-ends, copies-none, copies-large, copies-wanted)
+pub ruleset lists = (rules, made-mul, made-add, size-mul, size-add, list-ends, list-not, list-fails, copies-ends, copies-fails)

@@ -1,6 +1,6 @@
 -- The defaults of an array's elements, as `build` forms them. Assumes nothing.
 use borrow.Enum.Refused.{opened}
-use mathlib.Core.Path.{◌≡◌, refl, ap, ◌∙◌}
+use mathlib.Core.Path.{◌≡◌, refl, ap, sym, ◌∙◌}
 use mathlib.Core.List.{List, [], ◌∷◌}
 use Prim.Native.Nat.{ℕ, ◌+◌, ◌*◌, ◌^◌, ◌≤◌, ◌<◌}
 use native.Mathlib.Omega.{arith}
@@ -29,8 +29,9 @@ use Rattle.laws.specs.Depths.{deepest-at, shape-depth-least}
 use Rattle.laws.specs.Gathers.{Gathered, good-array}
 use Rattle.laws.specs.Steps.{peek-nothing}
 use Rattle.places.specs.Inside.{PlaceIn, element-shape}
-use Rattle.build.specs.declared.built.Built.{Built}
-use Rattle.build.specs.declared.built.Built.TheVariants as built
+use Rattle.build.specs.declared.built.Unbuilt.{Unbuilt}
+use Rattle.build.specs.declared.built.Unbuilt.TheVariants as unbuilt
+use Rattle.build.specs.Built.{Built}
 use Rattle.build.specs.Built.{answer_of, Ready}
 use Rattle.build.specs.Built as of-build
 use Rattle.build.specs.Parts.{start_levels, array_words, WholeAt}
@@ -38,9 +39,8 @@ use Rattle.build.specs.Spread.{FlatAt, Flattens}
 use Rattle.build.proofs.Peeks.{EndsAt, gives-ends}
 use Rattle.build.proofs.Smalls.{elements-gathered}
 use Rattle.build.proofs.Levels.{element-under}
-use Rattle.gather.specs.declared.answers.Listed.{Listed}
-use Rattle.gather.specs.declared.answers.Listed.TheVariants as listed
-use Rattle.gather.specs.Answers.{Lists}
+use Rattle.gather.specs.Answers.{Listing, listed, stopped, Lists}
+use Rattle.std.specs.Prelude.{Err, Ok}
 use Rattle.gather.specs.Room.{RoomThere, shapes_deep, whole}
 use Rattle.gather.specs.Elements.{EndsWhole, TakesHead, ElementDefaults}
 use Rattle.gather.proofs.Arrays.{many-nodes}
@@ -51,7 +51,7 @@ unfolding flat array_tree headed head parts
 flat-array ts = refl
 
 module _ {b : Built} {old : List ℕ} (at : ℕ) where
-  module _ {end : ℕ} (q : b ≡ built.Ends end) (w : EndsWhole b old at) where
+  module _ {end : ℕ} (q : b ≡ Ok end) (w : EndsWhole b old at) where
     pub head-whole : WholeAt old at end
     head-whole = w.stands end q
 
@@ -65,10 +65,10 @@ module _ {b : Built} {old : List ℕ} (at : ℕ) where
       pub head-fits : length new ≡ length old → length old * 4 < 2 ^ 63 → Fits w64 (at + m * 6)
       head-fits g l = record { fits = omega (arith, there.stands.fits) }
 
-      pub head-ends : TakesHead b old at (listed.Ends (at + m * 6) n m) new
+      pub head-ends : TakesHead b old at (listed (at + m * 6) n m) new
       head-ends = record { kept = x.kept; says = λ M k g y. go M k g (gives-ends (peek M k) y q) }
         where
-          go : (M : Memo) (k : Ask (Result Trees)) → ((ts : Trees) → peek M k ≡ got (ok ts) → Gathered 0 ts) → EndsAt array_words (peek M k) at end old → Lists M k whole at (listed.Ends (at + m * 6) n m) new
+          go : (M : Memo) (k : Ask (Result Trees)) → ((ts : Trees) → peek M k ≡ got (ok ts) → Gathered 0 ts) → EndsAt array_words (peek M k) at end old → Lists M k whole at (listed (at + m * 6) n m) new
           go M k g y =
               let ts = y.value in
               let h = g y.value y.is in
@@ -86,32 +86,14 @@ module _ {b : Built} {old : List ℕ} (at : ℕ) where
                 few = omega (arith, v.counts, f, many-nodes y.value, h.room);
               }
 
-  pub head-none : b ≡ built.None → TakesHead b old at listed.None old
-  head-none q = record { kept = refl; says = λ M k g y. go (peek M k) y.says }
+  pub head-fails : {u : Unbuilt} → b ≡ Err u → {r : Listing} → r ≡ Err u → TakesHead b old at r old
+  head-fails {u} q {r} e = record { kept = refl; says = λ M k g y. rw e (go u (peek M k) (sym q ∙ y.says)) }
     where
-      go : (p : Peek (Result Trees)) → b ≡ answer_of array_words at p → p ≡ got none
-      go (got (ok a)) s = let z : ◌≡◌ {A = ℕ} 0 1 = cc in absurd (omega arith)
-      go (got none) s = refl
-      go (got large) s = let z : ◌≡◌ {A = ℕ} 0 1 = cc in absurd (omega arith)
-      go (wants d) s = let z : ◌≡◌ {A = ℕ} 0 1 = cc in absurd (omega arith)
-
-  pub head-large : b ≡ built.TooLarge → TakesHead b old at listed.TooLarge old
-  head-large q = record { kept = refl; says = λ M k g y. go (peek M k) y.says }
-    where
-      go : (p : Peek (Result Trees)) → b ≡ answer_of array_words at p → p ≡ got large
-      go (got (ok a)) s = let z : ◌≡◌ {A = ℕ} 0 1 = cc in absurd (omega arith)
-      go (got none) s = let z : ◌≡◌ {A = ℕ} 0 1 = cc in absurd (omega arith)
-      go (got large) s = refl
-      go (wants d) s = let z : ◌≡◌ {A = ℕ} 0 1 = cc in absurd (omega arith)
-
-  pub head-wanted : {d : ℕ} → b ≡ built.Wanted d → TakesHead b old at (listed.Wanted d) old
-  head-wanted {d} q = record { kept = refl; says = λ M k g y. go (peek M k) y.says }
-    where
-      go : (p : Peek (Result Trees)) → b ≡ answer_of array_words at p → p ≡ wants d
-      go (got (ok a)) s = let z : ◌≡◌ {A = ℕ} 0 1 = cc in absurd (omega arith)
-      go (got none) s = let z : ◌≡◌ {A = ℕ} 0 1 = cc in absurd (omega arith)
-      go (got large) s = let z : ◌≡◌ {A = ℕ} 0 1 = cc in absurd (omega arith)
-      go (wants e) s = let z : e ≡ d = cc in ap wants z
+      go : (u : Unbuilt) (p : Peek (Result Trees)) → Err u ≡ answer_of array_words at p → p ≡ stopped u
+      go u (got (ok a)) s = let z : ◌≡◌ {A = ℕ} 0 1 = cc in absurd (omega arith)
+      go u (got none) s = let z : u ≡ unbuilt.None = cc in rw z
+      go u (got large) s = let z : u ≡ unbuilt.TooLarge = cc in rw z
+      go u (wants d) s = let z : u ≡ unbuilt.Wanted d = cc in rw z
 
 -- ---- `element_defaults`
 -- every shape but arrays
@@ -143,7 +125,7 @@ module _ (f : List ℕ) (place : Place) where
   no-array shape.Unknown h = refl
 
 module _ {f known store : List ℕ} (place : Place) {old : List ℕ} (at : ℕ) where
-  pub elements-none : OneOf plain (tag_of the_type place.shape) → ElementDefaults f known store place old at listed.None old
+  pub elements-none : OneOf plain (tag_of the_type place.shape) → ElementDefaults f known store place old at (Err unbuilt.None) old
   unfolding element_defaults
   elements-none h = record { says = λ M k room. record { kept = refl; lists = ap (peek M) (no-array f place place.shape h) ∙ peek-nothing M } }
 
@@ -170,7 +152,7 @@ module _ {f known store : List ℕ} (g : Ready f known store) (place : Place) (i
               record { tree = array_tree v.value; good = good-array v.value (elements-gathered g.accepted g.memory i v.value v.is).whole; stands = v.stands };
         }
 
-    pub elements-listed : {r' : Listed} {new : List ℕ} → TakesHead r mid at r' new → ElementDefaults f known store place old at r' new
+    pub elements-listed : {r' : Listing} {new : List ℕ} → TakesHead r mid at r' new → ElementDefaults f known store place old at r' new
     elements-listed w =
         record {
           says = λ M k room.
@@ -187,9 +169,7 @@ pub ruleset laws = (
   head-times,
   head-fits,
   head-ends,
-  head-none,
-  head-large,
-  head-wanted,
+  head-fails,
   elements-none,
   elements-room,
   elements-tree,

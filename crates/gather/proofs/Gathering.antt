@@ -1,13 +1,9 @@
 -- Values that are gathered one entry after another: what is there so far, and what is left. Assumes nothing.
-use borrow.Enum.Refused.{opened}
 use mathlib.Core.Path.{◌≡◌, refl, ap, sym, ◌∙◌}
 use mathlib.Core.List.{List, []}
-use Prim.Native.Nat.{ℕ, zero, suc, ◌+◌, ◌-◌, ◌*◌, ◌≤◌, ◌<◌}
+use Prim.Native.Nat.{ℕ, zero, suc, ◌+◌, ◌*◌, ◌≤◌, ◌<◌}
 use native.Mathlib.Omega.{arith}
 use native.Mathlib.Nat.{add-zero}
-use mathlib.Core.List.{◌∷◌}
-use types.Run.{OneOf, miss}
-use denote.Enum.Declared.{tag_of}
 use borrow.Author.Rules.{rules}
 use borrow.Author.Tests.{le-leb, lt-leb}
 use lib.ListN.{length, take}
@@ -23,14 +19,14 @@ use Rattle.tree.specs.Words.{Stand}
 use Rattle.tree_changes.specs.Limit.{added_of}
 use Rattle.tree_changes.proofs.Limits.{added_is, outcome_of}
 use Rattle.tree.proofs.Stands.{stand-append, stand-kept, rest-stand}
-use Rattle.gather.specs.contracts.answers.Listed.{the_type}
+use Rattle.build.specs.declared.built.Unbuilt.{Unbuilt}
+use Rattle.build.specs.declared.built.Unbuilt.TheVariants as unbuilt
 use Rattle.gather.specs.declared.answers.Listed.{Listed}
-use Rattle.gather.specs.declared.answers.Listed.TheVariants as listed
 use Rattle.gather.specs.declared.answers.Filling.{Filling}
-use Rattle.gather.specs.Answers.{ListThere, Lists, Filled}
+use Rattle.gather.specs.Answers.{Listing, listed, stopped, ListThere, Lists, Filled}
 use Rattle.gather.specs.Room.{Defaults, Fillable}
 use Rattle.gather.specs.Copies.{MovesOn, NextDefault, EachDefault, PushesDefaults}
-use Rattle.gather.proofs.Onward.{take_less, lists-as}
+use Rattle.gather.proofs.Onward.{take_less, peek-stops, lists-as}
 use Rattle.std.specs.Prelude.{Err, Ok}
 use Rattle.tree_changes.specs.declared.limit.Misfit.TheVariants as misfit
 use Rattle.tree_changes.specs.Limit.{Added}
@@ -54,6 +50,11 @@ join-assoc : (ts us vs : Trees) → join ts (join us vs) ≡ join (join ts us) v
 unfolding join
 join-assoc tnil us vs = refl
 join-assoc (tcons t ts) us vs = ap (tcons t) (join-assoc ts us vs)
+
+behind-stopped : (vs : Trees) (u : Unbuilt) → behind vs (stopped u) ≡ stopped u
+behind-stopped vs unbuilt.None = refl
+behind-stopped vs unbuilt.TooLarge = refl
+behind-stopped vs (unbuilt.Wanted d) = refl
 
 behind-nil : (p : Peek (Result Trees)) → behind tnil p ≡ p
 unfolding join
@@ -83,17 +84,9 @@ module _ (M : Memo) where
     unfolding and_more
     more-ok ts e = peek-ok M some (λ ts. next (made + many ts) (size + nodes_in ts) >>= λ us. give (join ts us)) ts e ∙ joins ts (next (made + many ts) (size + nodes_in ts))
 
-    pub more-none : peek M some ≡ got none → peek M (and_more made size some next) ≡ got none
+    pub more-stops : (u : Unbuilt) → peek M some ≡ stopped u → peek M (and_more made size some next) ≡ stopped u
     unfolding and_more
-    more-none e = peek-none M some (λ ts. next (made + many ts) (size + nodes_in ts) >>= λ us. give (join ts us)) e
-
-    pub more-large : peek M some ≡ got large → peek M (and_more made size some next) ≡ got large
-    unfolding and_more
-    more-large e = peek-large M some (λ ts. next (made + many ts) (size + nodes_in ts) >>= λ us. give (join ts us)) e
-
-    pub more-wanted : (d : ℕ) → peek M some ≡ wants d → peek M (and_more made size some next) ≡ wants d
-    unfolding and_more
-    more-wanted d e = peek-wanted M some (λ ts. next (made + many ts) (size + nodes_in ts) >>= λ us. give (join ts us)) d e
+    more-stops u e = peek-stops M some (λ ts. next (made + many ts) (size + nodes_in ts) >>= λ us. give (join ts us)) u e
 
 -- ---- so far
 pub record SoFar (M : Memo) (whole left : Ask (Result Trees)) (l : Filling) (old : List ℕ) (at to made size : ℕ) (s : List ℕ) : Type 0 where
@@ -150,16 +143,15 @@ module _ (M : Memo) (whole : Ask (Result Trees)) (l : Filling) (old : List ℕ) 
           few = omega (arith, t.few);
         }
 
-    fails : (r : Listed) → OneOf (1 ∷ 2 ∷ 3 ∷ []) (tag_of the_type r) → Lists M some i to r s' → Lists M whole l at r s'
-    fails (listed.Ends e m n) o t = absurd (miss (1 ∷ 2 ∷ 3 ∷ []) 0 tt o)
-    fails listed.None o t = y.goes ∙ ap (behind y.values) (q ∙ more-none M made size some next t)
-    fails listed.TooLarge o t = y.goes ∙ ap (behind y.values) (q ∙ more-large M made size some next t)
-    fails (listed.Wanted d) o t = y.goes ∙ ap (behind y.values) (q ∙ more-wanted M made size some next d t)
+    -- what `?` hands on
+    pub so-far-fails : {u : Unbuilt} → Lists M some i to (Err u) s' → take to s' ≡ take to s → {r : Listing} → r ≡ Err u → Filled M whole l old at r s'
+    so-far-fails {u} t k {r} p =
+        rw p (record {
+          kept = take_less s' s at to (omega (arith, y.ends)) k ∙ y.kept;
+          lists = y.goes ∙ ap (behind y.values) (q ∙ more-stops M made size some next u t) ∙ behind-stopped y.values u;
+        })
 
-    pub so-far-fails : (r : Listed) → OneOf (1 ∷ 2 ∷ 3 ∷ []) (tag_of the_type r) → Lists M some i to r s' → take to s' ≡ take to s → Filled M whole l old at r s'
-    so-far-fails r o t k = record { kept = take_less s' s at to (omega (arith, y.ends)) k ∙ y.kept; lists = fails r o t }
-
-  pub so-far-all : {left : Ask (Result Trees)} {to made size : ℕ} {s : List ℕ} → SoFar M whole left l old at to made size s → left ≡ give tnil → Filled M whole l old at (listed.Ends to made size) s
+  pub so-far-all : {left : Ask (Result Trees)} {to made size : ℕ} {s : List ℕ} → SoFar M whole left l old at to made size s → left ≡ give tnil → Filled M whole l old at (listed to made size) s
   so-far-all y q =
       record {
         kept = y.kept;
@@ -233,86 +225,96 @@ module _ {M : Memo} {whole left : Ask (Result Trees)} {l : Filling} {old : List 
   along-next {some} {e} {m} {n} {new} t k g v =
       v.says l.places ds at (defaults-kept y.next new at (omega arith) g (take_less new s at to (omega (arith, y.far.ends)) k)) (omega (arith, t.counts)) (omega (arith, t.few))
 
-pub record EachInv (k : ℕ) (l : Filling) (old : List ℕ) (at left from to made size : ℕ) (s : List ℕ) : Type 0 where
+pub record EachInv (k : ℕ) (l : Filling) (old : List ℕ) (at left : ℕ) (now : Filling) (to : ℕ) (s : List ℕ) : Type 0 where
   pub long : length s ≡ length old
+  pub places : now.places ≡ l.places
   pub says : (M : Memo) (ds : Trees) → Fillable old l at 12288 ds
-      → Along M (defaulted k (rest l.made ds) l.places l.made l.size) (defaulted left (rest made ds) l.places made size) l old at ds from to made size s
+      → Along M (defaulted k (rest l.made ds) l.places l.made l.size) (defaulted left (rest now.made ds) l.places now.made now.size) l old at ds now.from to now.made now.size s
 
-pub each_first : (k : ℕ) (l : Filling) (old : List ℕ) (at : ℕ) → EachInv k l old at k l.from at l.made l.size old
-each_first k l old at =
-    record {
+pub each_first : (k : ℕ) (l : Filling) (old : List ℕ) (at : ℕ) → {left : ℕ} → left ≡ k → EachInv k l old at left l at old
+each_first k l old at e =
+    rw e (record {
       long = refl;
+      places = refl;
       says = λ M ds y.
           record {
             far = so-far-none M (defaulted k (rest l.made ds) l.places l.made l.size) l old at (omega (arith, y.room)) y.few y.small;
             next = y.defaults;
           };
-    }
+    })
 
-module _ {k : ℕ} {l : Filling} {old : List ℕ} {at left from to made size : ℕ} {s : List ℕ} (y : EachInv k l old at left from to made size s) where
-  pub each_all : left ≤ 0 → EachDefault k l old at (listed.Ends to made size) s
+next-as : {i j : Filling} {s : List ℕ} {to : ℕ} {r : Listing} {new : List ℕ} → i ≡ j → NextDefault i s to r new → NextDefault j s to r new
+next-as e w = rw e at w
+
+module _ {k : ℕ} {l : Filling} {old : List ℕ} {at left : ℕ} {now : Filling} {to : ℕ} {s : List ℕ} (y : EachInv k l old at left now to s) where
+  pub each_all : left ≡ 0 → EachDefault k l old at (listed to now.made now.size) s
   unfolding defaulted
-  each_all h =
-      record { says = λ M ds z. let e : left ≡ 0 = omega arith in so-far-all M _ l old at (y.says M ds z).far (ap (λ n. defaulted n (rest made ds) l.places made size) e) }
+  each_all e = record { says = λ M ds z. so-far-all M _ l old at (y.says M ds z).far (ap (λ n. defaulted n (rest now.made ds) l.places now.made now.size) e) }
 
-  module _ (h : 0 < left) {r : Listed} {new : List ℕ} (w : NextDefault (now_at l from made size) s to r new) where
-    each-ready : {ds : Trees} → Fillable old l at 12288 ds → (M : Memo) → Fillable s (now_at l from made size) to 0 ds × (to + 12282 ≤ length s + 6 * size)
+  as_now : now ≡ now_at l now.from now.made now.size
+  as_now = ap (λ (p : ℕ). now_at (record { from = 0; places = p; made = 0; size = 0 }) now.from now.made now.size) y.places
+
+  module _ {more : ℕ} (h : left ≡ suc more) {b : Listing} {new : List ℕ} (x : NextDefault now s to b new) where
+    w : NextDefault (now_at l now.from now.made now.size) s to b new
+    w = next-as as_now x
+
+    each-ready : {ds : Trees} → Fillable old l at 12288 ds → (M : Memo) → Fillable s (now_at l now.from now.made now.size) to 0 ds × (to + 12282 ≤ length s + 6 * now.size)
     each-ready {ds} z M =
         let f = (y.says M ds z).far in (
           along-ready (y.says M ds z) 0 (omega (arith, f.small.room, f.ends, z.room, y.long)),
           omega (arith, f.ends, f.sizes, z.room, y.long),
         )
 
-    one_left : left ≡ suc (left - 1)
-    one_left = omega arith
-
     -- a step, by what is left
-    step_is : (M : Memo) (t : Tree) (us ds : Trees) → rest made ds ≡ tcons t us
-        → peek M (defaulted left (rest made ds) l.places made size) ≡ peek M (and_more made size (added l.places made size (one t)) (defaulted (left - 1) us l.places))
-    step_is M t us ds q = ap (λ n. peek M (defaulted n (rest made ds) l.places made size)) one_left ∙ next-is l.places made size M (left - 1) t us (rest made ds) q
+    step_is : (M : Memo) (t : Tree) (us ds : Trees) → rest now.made ds ≡ tcons t us
+        → peek M (defaulted left (rest now.made ds) l.places now.made now.size) ≡ peek M (and_more now.made now.size (added l.places now.made now.size (one t)) (defaulted more us l.places))
+    step_is M t us ds q = ap (λ n. peek M (defaulted n (rest now.made ds) l.places now.made now.size)) h ∙ next-is l.places now.made now.size M more t us (rest now.made ds) q
 
-    none_is : (M : Memo) (ds : Trees) → rest made ds ≡ tnil → peek M (defaulted left (rest made ds) l.places made size) ≡ got none
-    none_is M ds q = ap (λ n. peek M (defaulted n (rest made ds) l.places made size)) one_left ∙ last-is l.places made size M (left - 1) (rest made ds) q
+    none_is : (M : Memo) (ds : Trees) → rest now.made ds ≡ tnil → peek M (defaulted left (rest now.made ds) l.places now.made now.size) ≡ got none
+    none_is M ds q = ap (λ n. peek M (defaulted n (rest now.made ds) l.places now.made now.size)) h ∙ last-is l.places now.made now.size M more (rest now.made ds) q
 
-    pub each-fails : OneOf (1 ∷ 2 ∷ 3 ∷ []) (tag_of the_type r) → EachDefault k l old at r new
-    each-fails o = record { says = λ M ds z. go M ds z (rest made ds) refl (w.says M ds (each-ready z M).0 (each-ready z M).1) }
+    -- what `?` hands on
+    pub each-fails : {u : Unbuilt} → b ≡ Err u → {r : Listing} → r ≡ Err u → EachDefault k l old at r new
+    each-fails {u} j {r} p =
+        record { says = λ M ds z. go M ds z (rest now.made ds) refl (lists-as M _ (now_at l now.from now.made now.size) to new j (w.says M ds (each-ready z M).0 (each-ready z M).1)) }
       where
-        go : (M : Memo) (ds : Trees) → Fillable old l at 12288 ds → (us : Trees) → rest made ds ≡ us
-            → Lists M (on_first us (λ t ts. added l.places made size (one t))) (now_at l from made size) to r new
+        go : (M : Memo) (ds : Trees) → Fillable old l at 12288 ds → (us : Trees) → rest now.made ds ≡ us
+            → Lists M (on_first us (λ t ts. added l.places now.made now.size (one t))) (now_at l now.from now.made now.size) to (Err u) new
             → Filled M (defaulted k (rest l.made ds) l.places l.made l.size) l old at r new
         go M ds z tnil e t =
-            so-far-fails M _ l old at (y.says M ds z).far nothing (λ m n. nothing) (none_is M ds e ∙ sym (more-none M made size nothing (λ m n. nothing) (peek-nothing M)))
-            (now_at l from made size) refl refl refl new r o t w.kept
+            so-far-fails M _ l old at (y.says M ds z).far nothing (λ m n. nothing) (none_is M ds e ∙ sym (more-stops M now.made now.size nothing (λ m n. nothing) unbuilt.None (peek-nothing M)))
+            (now_at l now.from now.made now.size) refl refl refl new t w.kept p
         go M ds z (tcons u us) e t =
-            so-far-fails M _ l old at (y.says M ds z).far (added l.places made size (one u)) (defaulted (left - 1) us l.places) (step_is M u us ds e)
-            (now_at l from made size) refl refl refl new r o t w.kept
+            so-far-fails M _ l old at (y.says M ds z).far (added l.places now.made now.size (one u)) (defaulted more us l.places) (step_is M u us ds e)
+            (now_at l now.from now.made now.size) refl refl refl new t w.kept p
 
-    pub each_more : {e m n : ℕ} → r ≡ listed.Ends e m n → length new ≡ length s → {from' : ℕ} → MovesOn new from made m from' → EachInv k l old at (left - 1) from' e m n new
-    each_more {e} {m} {n} j g v =
+    pub each_more : {v : Listed} → b ≡ Ok v → length new ≡ length s → {from' : ℕ} → MovesOn new now.from now.made v.made from' → EachInv k l old at more (now_at l from' v.made v.size) v.end new
+    each_more {v} j g f =
         record {
           long = g ∙ y.long;
+          places = refl;
           says = λ M ds z.
-              let t = lists-as M _ (now_at l from made size) to new j (w.says M ds (each-ready z M).0 (each-ready z M).1) in
-              record { far = go M ds z (rest made ds) refl t; next = along-next (y.says M ds z) t w.kept g v };
+              let t = lists-as M _ (now_at l now.from now.made now.size) to new j (w.says M ds (each-ready z M).0 (each-ready z M).1) in
+              record { far = go M ds z (rest now.made ds) refl t; next = along-next (y.says M ds z) t w.kept g f };
         }
       where
-        go : (M : Memo) (ds : Trees) → Fillable old l at 12288 ds → (us : Trees) → rest made ds ≡ us
-            → ListThere M (on_first us (λ t ts. added l.places made size (one t))) (now_at l from made size) to e m n new
-            → SoFar M (defaulted k (rest l.made ds) l.places l.made l.size) (defaulted (left - 1) (rest m ds) l.places m n) l old at e m n new
+        go : (M : Memo) (ds : Trees) → Fillable old l at 12288 ds → (us : Trees) → rest now.made ds ≡ us
+            → ListThere M (on_first us (λ t ts. added l.places now.made now.size (one t))) (now_at l now.from now.made now.size) to v.end v.made v.size new
+            → SoFar M (defaulted k (rest l.made ds) l.places l.made l.size) (defaulted more (rest v.made ds) l.places v.made v.size) l old at v.end v.made v.size new
         go M ds z tnil q t = absurd (never-ok M t.trees t.is)
         go M ds z (tcons u us) q t =
-            let v = added-same M l.places made size (one u) t.trees t.is in
-            let a : suc made ≡ m = omega (arith, t.counts, ap many v, many-one u) in
-            let b : rest m ds ≡ us = ap (λ x. rest x ds) (sym a) ∙ rest-next made ds u us q in
-            rw b (so_far_more M _ l old at (y.says M ds z).far (added l.places made size (one u)) (defaulted (left - 1) us l.places) (step_is M u us ds q)
-            (now_at l from made size) refl refl refl new t w.kept g)
+            let i = added-same M l.places now.made now.size (one u) t.trees t.is in
+            let a : suc now.made ≡ v.made = omega (arith, t.counts, ap many i, many-one u) in
+            let b : rest v.made ds ≡ us = ap (λ x. rest x ds) (sym a) ∙ rest-next now.made ds u us q in
+            rw b (so_far_more M _ l old at (y.says M ds z).far (added l.places now.made now.size (one u)) (defaulted more us l.places) (step_is M u us ds q)
+            (now_at l now.from now.made now.size) refl refl refl new t w.kept g)
 
 -- ---- `push_defaults`
 module _ (k : ℕ) {l : Filling} {old : List ℕ} {at : ℕ} where
-  pub defaults-each : k ≤ l.places → {r : Listed} {new : List ℕ} → EachDefault k l old at r new → PushesDefaults k l old at r new
+  pub defaults-each : k ≤ l.places → {r : Listing} {new : List ℕ} → EachDefault k l old at r new → PushesDefaults k l old at r new
   defaults-each h {r} {new} w = record { says = λ M ds z. rw (z.defaults.count, le-leb k l.places h) (w.says M ds z) }
 
-  pub defaults-many : l.places < k → PushesDefaults k l old at listed.None old
+  pub defaults-many : l.places < k → PushesDefaults k l old at (Err unbuilt.None) old
   defaults-many h = record { says = λ M ds z. rw (z.defaults.count, lt-leb k l.places h) (record { kept = refl; lists = peek-nothing M }) }
 
-pub ruleset laws = (rules, opened, each_first, each_all, each-fails, each_more, defaults-each, defaults-many)
+pub ruleset laws = (rules, each_first, each_all, each-fails, each_more, defaults-each, defaults-many)

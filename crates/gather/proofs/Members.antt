@@ -21,7 +21,7 @@ use Rattle.definition.specs.Places.{field_place}
 use Rattle.definition.specs.Resolve.{Memo}
 use Rattle.definition.specs.Peek.{got, peek}
 use Rattle.laws.specs.Accepted.{Accepted}
-use Rattle.laws.specs.Steps.{peek-ok, peek-none, peek-large, peek-wanted}
+use Rattle.laws.specs.Steps.{peek-ok, peek-large}
 use Rattle.laws.specs.Whole.{nodes_in-join, goods-assigned, many-assigned, flatten-length}
 use Rattle.definition.specs.Ask.{result_of}
 use Rattle.places.specs.Inside.{PlaceIn, field_found}
@@ -31,13 +31,15 @@ use Rattle.tree.specs.Part.{span, place, find_of}
 use Rattle.tree_changes.specs.Grow.{in_order, moved, Spliced, Assigned, renamed}
 use Rattle.tree.proofs.Fields.{Named, place-named}
 use Rattle.tree_changes.proofs.Splicing.{assigned-limit, assigned-there}
-use Rattle.build.specs.declared.built.Built.{Built}
-use Rattle.build.specs.declared.built.Built.TheVariants as built
-use Rattle.gather.specs.declared.copies.Target.TheVariants as target
+use Rattle.build.specs.declared.built.Unbuilt.{Unbuilt}
+use Rattle.build.specs.declared.built.Unbuilt.TheVariants as unbuilt
+use Rattle.build.specs.Built.{Built}
+use Rattle.build.specs.Unfit.{unbuilt_of}
+use Rattle.gather.specs.declared.copies.Target.{Target}
 use Rattle.gather.specs.Answers.{TreeThere}
 use Rattle.gather.specs.Room.{Structure}
 use Rattle.gather.specs.Copies.{SetThere, SetsKept, Finds, PutsMember}
-use Rattle.gather.proofs.Onward.{builds-as}
+use Rattle.gather.proofs.Onward.{peek-stops, builds-as}
 use Rattle.gather.proofs.Arrays.{gathered-ok, gathered-large, replaced-is, in_order_lem}
 use Rattle.std.specs.Prelude.{Err, None, Ok, Option, Some}
 use Rattle.std.specs.Prelude as std
@@ -52,26 +54,26 @@ named-entry f e q = q
 module _ {f : List ℕ} (a : Accepted f) (p : Place) (i : PlaceIn f p) (e : ℕ) {name : ℕ} (n : name ≡ word f entries e 1)
     {s : List ℕ} (at : ℕ) {x : Option Span} (q : x ≡ find_of s at name) where
   module _ {w : Span} (j : x ≡ Some w) {y : Option Place} (z : result_of y ≡ field_place f p name) where
-    pub finds-at : {inner : Place} → y ≡ Some inner → Finds f p e s at (target.At w.begin w.end name inner)
+    pub finds-at : {inner : Place} → y ≡ Some inner → Finds f p e s at (Some (record { begin = w.begin; end = w.end; name = name; place = inner }))
     finds-at {inner} k =
         record {
           says = (named-entry f e n, sym q ∙ j, sym z ∙ (rw k refl));
-          inside = λ b' u' n' inner' v. let o : inner ≡ inner' = cc in rw o at (field_found f a p name i z k);
+          inside = λ t v. let o : inner ≡ t.place = cc in rw o at (field_found f a p name i z k);
         }
 
-    pub finds-none : y ≡ None → Finds f p e s at target.None
-    finds-none k =
-        record {
+    pub finds-none : y ≡ None → {r : Option Target} → r ≡ None → Finds f p e s at r
+    finds-none k o =
+        rw o (record {
           says = inr (rw (← named-entry f e n) (sym z ∙ (rw k refl)));
-          inside = λ b' u' n' inner' w. let a : ◌≡◌ {A = ℕ} 0 1 = cc in absurd (omega arith);
-        }
+          inside = λ t v. let a : ◌≡◌ {A = ℕ} 0 1 = cc in absurd (omega arith);
+        })
 
-  pub finds-nothing : x ≡ None → Finds f p e s at target.None
-  finds-nothing j =
-      record {
+  pub finds-nothing : x ≡ None → {r : Option Target} → r ≡ None → Finds f p e s at r
+  finds-nothing j o =
+      rw o (record {
         says = inl (rw (← named-entry f e n) (sym q ∙ j));
-        inside = λ b' u' n' inner' w. let a : ◌≡◌ {A = ℕ} 0 1 = cc in absurd (omega arith);
-      }
+        inside = λ t v. let a : ◌≡◌ {A = ℕ} 0 1 = cc in absurd (omega arith);
+      })
 
 -- ---- `put_member`
 -- the head of a structure, and the structure with a field assigned
@@ -143,7 +145,7 @@ module _ (at end begin upto name to : ℕ) (old : List ℕ) {g : std.Result ℕ 
   next-is : (k : Trees → Ask Outcome) → peek M (m >>= λ t. gathered 0 (assigned name t fields) >>= k) ≡ peek M (gathered 0 (assigned name y.tree fields) >>= k)
   next-is k = peek-ok M m (λ t. gathered 0 (assigned name t fields) >>= k) y.tree y.is
 
-  set-ends : {e : ℕ} → g ≡ Ok e → SetsKept M (λ k. m >>= λ t. gathered 0 (assigned name t fields) >>= k) old at (built.Ends e) new
+  set-ends : {e : ℕ} → g ≡ Ok e → SetsKept M (λ k. m >>= λ t. gathered 0 (assigned name t fields) >>= k) old at (Ok e) new
   set-ends {e} j =
       let z : Spliced (renamed old end name) (span at end) (span begin upto) (span end to) new = rw j at w.wrote in
       let b : at + 6 ≤ begin = omega (arith, named.begins) in
@@ -166,7 +168,7 @@ module _ (at end begin upto name to : ℕ) (old : List ℕ) {g : std.Result ℕ 
             (λ h v. let n : ◌≡◌ {A = ℕ} 0 1 = cc in absurd (omega arith));
       }
 
-  set-large : g ≡ (Err unfit.TooLarge) → SetsKept M (λ k. m >>= λ t. gathered 0 (assigned name t fields) >>= k) old at built.TooLarge new
+  set-large : g ≡ (Err unfit.TooLarge) → SetsKept M (λ k. m >>= λ t. gathered 0 (assigned name t fields) >>= k) old at (Err unbuilt.TooLarge) new
   set-large j =
       record {
         kept = ap (take at) (rw j at w.wrote);
@@ -179,30 +181,20 @@ module _ (at end begin upto name to : ℕ) (old : List ℕ) {g : std.Result ℕ 
   set-not j = by_size ⊥ (λ h v. let n : ◌≡◌ {A = ℕ} 0 1 = cc in omega arith) (λ h v. let n : ◌≡◌ {A = ℕ} 0 1 = cc in omega arith)
 
 module _ {b : Built} (at end begin upto name : ℕ) where
-  module _ {to : ℕ} (q : b ≡ built.Ends to) {old : List ℕ} {g : std.Result ℕ Unfit} {new : List ℕ}
+  module _ {to : ℕ} (q : b ≡ Ok to) {old : List ℕ} {g : std.Result ℕ Unfit} {new : List ℕ}
       (w : Assigned old (record { begin = at; end = end }) (record { begin = begin; end = upto }) (record { begin = end; end = to }) name g new) where
-    pub puts-ends : {e : ℕ} → g ≡ Ok e → PutsMember b at end begin upto name old (built.Ends e) new
+    pub puts-ends : {e : ℕ} → g ≡ Ok e → PutsMember b at end begin upto name old (Ok e) new
     puts-ends j = record { says = λ M m fields x p y. set-ends at end begin upto name to old w M m fields x p (builds-as M m end old q y) j }
 
-    pub puts-large : {u : Unfit} → g ≡ Err u → u ≡ unfit.TooLarge → PutsMember b at end begin upto name old built.TooLarge new
-    puts-large h z =
-        let j : g ≡ Err unfit.TooLarge = cc in record { says = λ M m fields x p y. set-large at end begin upto name to old w M m fields x p (builds-as M m end old q y) j }
+    pub puts-fails : {u : Unfit} → g ≡ Err u → {r : Built} → r ≡ Err (unbuilt_of u) → PutsMember b at end begin upto name old r new
+    puts-fails {u} j {r} e = rw e (go u j)
+      where
+        go : (u : Unfit) → g ≡ Err u → PutsMember b at end begin upto name old (Err (unbuilt_of u)) new
+        go unfit.TooLarge j = record { says = λ M m fields x p y. set-large at end begin upto name to old w M m fields x p (builds-as M m end old q y) j }
+        go unfit.Outside j = record { says = λ M m fields x p y. absurd (set-not at end begin upto name to old w M m fields x p (builds-as M m end old q y) j) }
 
-    pub puts-not : {u : Unfit} → g ≡ Err u → u ≡ unfit.Outside → PutsMember b at end begin upto name old built.None new
-    puts-not h z =
-        let j : g ≡ Err unfit.Outside = cc in record { says = λ M m fields x p y. absurd (set-not at end begin upto name to old w M m fields x p (builds-as M m end old q y) j) }
+  pub puts_none : {u : Unbuilt} → b ≡ Err u → {r : Built} → r ≡ Err u → {old : List ℕ} → PutsMember b at end begin upto name old r old
+  puts_none {u} q {r} e {old} =
+      rw e (record { says = λ M m fields x p y. record { kept = refl; sets = λ k. peek-stops M m (λ t. gathered 0 (assigned name t fields) >>= k) u (builds-as M m end old q y) } })
 
-  module _ {old : List ℕ} where
-    pub puts_none : b ≡ built.None → PutsMember b at end begin upto name old built.None old
-    puts_none q =
-        record { says = λ M m fields x p y. record { kept = refl; sets = λ k. peek-none M m (λ t. gathered 0 (assigned name t fields) >>= k) (builds-as M m end old q y) } }
-
-    pub puts-too-large : b ≡ built.TooLarge → PutsMember b at end begin upto name old built.TooLarge old
-    puts-too-large q =
-        record { says = λ M m fields x p y. record { kept = refl; sets = λ k. peek-large M m (λ t. gathered 0 (assigned name t fields) >>= k) (builds-as M m end old q y) } }
-
-    pub puts-wanted : {d : ℕ} → b ≡ built.Wanted d → PutsMember b at end begin upto name old (built.Wanted d) old
-    puts-wanted {d} q =
-        record { says = λ M m fields x p y. record { kept = refl; sets = λ k. peek-wanted M m (λ t. gathered 0 (assigned name t fields) >>= k) d (builds-as M m end old q y) } }
-
-pub ruleset laws = (rules, finds-at, finds-none, finds-nothing, puts-ends, puts-large, puts-not, puts_none, puts-too-large, puts-wanted)
+pub ruleset laws = (rules, finds-at, finds-none, finds-nothing, puts-ends, puts-fails, puts_none)

@@ -3,15 +3,31 @@ use Rattle.std.specs.Prelude.{◌≡◌, List, take, ℕ, ◌+◌, ◌*◌, ◌�
 use Rattle.definition.specs.Tree.{Tree, Trees, many, nodes, nodes_in, flatten, flatten_all}
 use Rattle.definition.specs.Ask.{Result, ok, none, large, Outcome, Ask}
 use Rattle.definition.specs.Resolve.{Memo}
-use Rattle.definition.specs.Peek.{got, wants, peek}
+use Rattle.definition.specs.Peek.{Peek, got, wants, peek}
 use Rattle.laws.specs.Values.{Small}
 use Rattle.laws.specs.Gathers.{Gathered}
 use Rattle.tree.specs.Words.{Stand}
-use Rattle.build.specs.declared.built.Built.{Built}
-use Rattle.build.specs.declared.built.Built.TheVariants as built
+use Rattle.build.specs.declared.built.Unbuilt.{Unbuilt}
+use Rattle.build.specs.declared.built.Unbuilt.TheVariants as unbuilt
+use Rattle.build.specs.Built.{Built}
 use Rattle.gather.specs.declared.answers.Listed.{Listed}
-use Rattle.gather.specs.declared.answers.Listed.TheVariants as listed
 use Rattle.gather.specs.declared.answers.Filling.{Filling}
+use Rattle.std.specs.Prelude.{Err, Ok}
+use Rattle.std.specs.Prelude as std
+
+-- values that are gathered, or why there are none
+abbrev pub Listing : Type 0
+Listing = std.Result Listed Unbuilt
+
+-- values up to here, so many with so many nodes
+abbrev pub listed : ℕ → ℕ → ℕ → Listing
+listed end made size = Ok (record { end = end; made = made; size = size })
+
+-- why there is no value, as a memo gives it
+abbrev pub stopped : {A : Type 0} → Unbuilt → Peek (Result A)
+stopped unbuilt.None = got none
+stopped unbuilt.TooLarge = got large
+stopped (unbuilt.Wanted d) = wants d
 
 -- a tree stands at a place
 pub record TreeThere (M : Memo) (m : Ask Outcome) (at e : ℕ) (new : List ℕ) : Type 0 where
@@ -22,10 +38,8 @@ pub record TreeThere (M : Memo) (m : Ask Outcome) (at e : ℕ) (new : List ℕ) 
   pub small : Small tree
 
 abbrev pub Builds : Memo → Ask Outcome → ℕ → Built → List ℕ → Type 0
-Builds M m at (built.Ends e) new = TreeThere M m at e new
-Builds M m at built.None new = peek M m ≡ got none
-Builds M m at built.TooLarge new = peek M m ≡ got large
-Builds M m at (built.Wanted d) new = peek M m ≡ wants d
+Builds M m at (Ok e) new = TreeThere M m at e new
+Builds M m at (Err u) new = peek M m ≡ stopped u
 
 -- values stand at a place, behind those that were made before
 pub record ListThere (M : Memo) (m : Ask (Result Trees)) (l : Filling) (at e made size : ℕ) (new : List ℕ) : Type 0 where
@@ -38,17 +52,15 @@ pub record ListThere (M : Memo) (m : Ask (Result Trees)) (l : Filling) (at e mad
   pub small : Gathered l.size trees
   pub few : made ≤ l.places
 
-abbrev pub Lists : Memo → Ask (Result Trees) → Filling → ℕ → Listed → List ℕ → Type 0
-Lists M m l at (listed.Ends e made size) new = ListThere M m l at e made size new
-Lists M m l at listed.None new = peek M m ≡ got none
-Lists M m l at listed.TooLarge new = peek M m ≡ got large
-Lists M m l at (listed.Wanted d) new = peek M m ≡ wants d
+abbrev pub Lists : Memo → Ask (Result Trees) → Filling → ℕ → Listing → List ℕ → Type 0
+Lists M m l at (Ok v) new = ListThere M m l at v.end v.made v.size new
+Lists M m l at (Err u) new = peek M m ≡ stopped u
 
 -- the same, where what stood before the place still does
 pub record Placed (M : Memo) (m : Ask Outcome) (old : List ℕ) (at : ℕ) (r : Built) (new : List ℕ) : Type 0 where
   pub kept : take at new ≡ take at old
   pub builds : Builds M m at r new
 
-pub record Filled (M : Memo) (m : Ask (Result Trees)) (l : Filling) (old : List ℕ) (at : ℕ) (r : Listed) (new : List ℕ) : Type 0 where
+pub record Filled (M : Memo) (m : Ask (Result Trees)) (l : Filling) (old : List ℕ) (at : ℕ) (r : Listing) (new : List ℕ) : Type 0 where
   pub kept : take at new ≡ take at old
   pub lists : Lists M m l at r new

@@ -14,12 +14,14 @@ use Rattle.definition.specs.Resolve.{Memo}
 use Rattle.laws.specs.Asks.{OnOk}
 use Rattle.laws.specs.Values.{Small}
 use Rattle.definition.specs.Ask.{result_of}
-use Rattle.build.specs.declared.built.Built.{Built}
-use Rattle.gather.specs.declared.answers.Listed.{Listed}
-use Rattle.gather.specs.declared.answers.Listed.TheVariants as listed
+use Rattle.build.specs.declared.built.Unbuilt.{Unbuilt}
+use Rattle.build.specs.declared.built.Unbuilt.TheVariants as unbuilt
+use Rattle.build.specs.Built.{Built}
 use Rattle.gather.specs.declared.answers.Filling.{Filling}
-use Rattle.gather.specs.Answers.{Builds, Lists}
+use Rattle.gather.specs.Answers.{Listing, Builds, Lists}
 use Rattle.std.specs.Prelude.{Err, Ok, Option}
+use Rattle.std.specs.Prelude as std
+use Rattle.tree_changes.specs.declared.limit.Misfit.{Misfit}
 use Rattle.tree_changes.specs.declared.limit.Misfit.TheVariants as misfit
 use Rattle.tree_changes.specs.Limit.{Added}
 use Rattle.definition.specs.declared.records.Constant.{Constant}
@@ -35,11 +37,19 @@ simple_of f s entry.LateBound = none
 simple_of f s (entry.Repeat many inner) = none
 simple_of f s entry.Unknown = none
 
+-- why values that do not fit give no array
+abbrev pub unlisted_of : Misfit → Unbuilt
+unlisted_of misfit.TooMany = unbuilt.None
+unlisted_of misfit.TooLarge = unbuilt.TooLarge
+
+abbrev pub allowed_of : Added → std.Result (Unit {0}) Unbuilt
+allowed_of (Ok u) = Ok u
+allowed_of (Err m) = Err (unlisted_of m)
+
 -- an answer where values fit, or why they do not
-abbrev pub on_added : Added → Listed → Listed
+abbrev pub on_added : Added → Listing → Listing
 on_added (Ok u) r = r
-on_added (Err misfit.TooMany) r = listed.None
-on_added (Err misfit.TooLarge) r = listed.TooLarge
+on_added (Err m) r = Err (unlisted_of m)
 
 -- one more value of an array
 abbrev pub pushed : Filling → Ask Outcome → Ask (Result Trees)
@@ -51,16 +61,16 @@ pub record Puts (v : Option Constant) (old : List ℕ) (at : ℕ) (r : Built) (n
   pub says : (M : Memo) (o : Outcome) → as_tree (result_of v) ≡ o → OnOk Small o → at + 6 ≤ length old → Builds M (done o) at r new
 
 -- and becomes the next of an array
-pub record Pushes (v : Option Constant) (l : Filling) (old : List ℕ) (at : ℕ) (r : Listed) (new : List ℕ) : Type 0 where
+pub record Pushes (v : Option Constant) (l : Filling) (old : List ℕ) (at : ℕ) (r : Listing) (new : List ℕ) : Type 0 where
   pub kept : take at new ≡ take at old
   pub says : (M : Memo) (o : Outcome) → as_tree (result_of v) ≡ o → OnOk Small o → at + 6 ≤ length old → Lists M (pushed l (done o)) l at r new
 
 -- a tree that stands at a place becomes the next
-pub record PushesTree (b : Built) (l : Filling) (at : ℕ) (r : Listed) : Type 0 where
+pub record PushesTree (b : Built) (l : Filling) (at : ℕ) (r : Listing) : Type 0 where
   pub says : (M : Memo) (m : Ask Outcome) (s : List ℕ) → Builds M m at b s → Lists M (pushed l m) l at r s
 
 -- the two for an entry, by its record
-pub record PushesSimple (f : List ℕ) (e : ℕ) (leaf : Place) (l : Filling) (old : List ℕ) (at : ℕ) (r : Listed) (new : List ℕ) : Type 0 where
+pub record PushesSimple (f : List ℕ) (e : ℕ) (leaf : Place) (l : Filling) (old : List ℕ) (at : ℕ) (r : Listing) (new : List ℕ) : Type 0 where
   pub kept : take at new ≡ take at old
   pub says : (M : Memo) → at + 6 ≤ length old → Lists M (pushed l (done (simple_of f leaf.shape (entry_at f e)))) l at r new
 

@@ -7,8 +7,8 @@ ghost use Rattle.places.specs.Inside.{PlaceIn};
 ghost use Rattle.gather.specs.Copies.{CopiesWords, PushesWords, CopiesFields, CopiesStructure, CopiesDefault, MovesOn, Remains, CopiesList, PushesCopies, NextDefault, EachDefault, PushesDefaults, FillsOver, FillsRest, PutsHead, Heads, Finds, PutsMember};
 
 use crate::answers::{Filling, Listed};
-use crate::leaves::nodes_between;
-use build::built::Built;
+use crate::leaves::{allowed, nodes_between};
+use build::built::Unbuilt;
 use definition::layout::{ENTRIES, NODE_WORDS};
 use definition::records::Place;
 use places::field::field_place;
@@ -17,8 +17,8 @@ use tree::extent::{Span, after, whole};
 use tree::node::{write_array, write_structure};
 use tree::part::{Value, find, value_at};
 use tree::words::{fits, shift};
-use tree_changes::grow::{Unfit, assign, repeat, replace};
-use tree_changes::limit::{Misfit, may_add, may_copy, may_gather};
+use tree_changes::grow::{assign, repeat, replace};
+use tree_changes::limit::{may_add, may_copy, may_gather};
 
 // Copies the words between two places.
 #[tactic(auto, using(crate::proofs::Copying::laws))]
@@ -33,55 +33,47 @@ fn copy_words(room: &mut [u32], from: usize, to: usize, at: usize) -> Option<usi
 
 // A structure's fields, copied under a head of their own.
 #[tactic(auto, using(crate::proofs::Copying::laws))]
-fn copy_fields(room: &mut [u32], begin: usize, end: usize, at: usize, count: u32) -> Built
+fn copy_fields(
+    room: &mut [u32],
+    begin: usize,
+    end: usize,
+    at: usize,
+    count: u32,
+) -> Result<usize, Unbuilt>
     ensures { CopiesFields begin end count room.old at result room.new }
 {
-    match copy_words(room, begin, end, at) {
-        Some(to) => match write_structure(room, at, count) {
-            Some(_) => Built::Ends(to),
-            None => Built::None,
-        },
-        None => Built::None,
-    }
+    let to = copy_words(room, begin, end, at).ok_or(Unbuilt::None)?;
+    write_structure(room, at, count).ok_or(Unbuilt::None)?;
+    Ok(to)
 }
 
 // A structure is taken apart or the answer is none.
 #[tactic(auto, using(crate::proofs::Copying::laws))]
-pub fn copy_structure(room: &mut [u32], begin: usize, end: usize, at: usize) -> Built
+pub fn copy_structure(
+    room: &mut [u32],
+    begin: usize,
+    end: usize,
+    at: usize,
+) -> Result<usize, Unbuilt>
     ensures { CopiesStructure begin end room.old at result room.new }
 {
-    let v = value_at(&room[..], begin);
-    let Some(value) = v else {
-        return Built::None;
-    };
+    let value = value_at(&room[..], begin).ok_or(Unbuilt::None)?;
     let Value::Structure(count) = value else {
-        return Built::None;
+        return Err(Unbuilt::None);
     };
     copy_fields(room, begin, end, at, count)
 }
 
 // The same of the next place's default.
 #[tactic(auto, using(crate::proofs::Copying::laws))]
-pub fn copy_default(l: Filling, room: &mut [u32], at: usize) -> Built
+pub fn copy_default(l: Filling, room: &mut [u32], at: usize) -> Result<usize, Unbuilt>
     ensures { CopiesDefault l room.old at result room.new }
 {
-    if l.made < l.places {
-        match whole(&room[..], l.from) {
-            Some(end) => copy_structure(room, l.from, end, at),
-            None => Built::None,
-        }
-    } else {
-        Built::None
+    if l.places <= l.made {
+        return Err(Unbuilt::None);
     }
-}
-
-fn less(a: usize, b: usize) -> usize
-    ensures { result ≡ a - b }
-{
-    if a < b {
-        return 0;
-    }
-    a - b
+    let end = whole(&room[..], l.from).ok_or(Unbuilt::None)?;
+    copy_structure(room, l.from, end, at)
 }
 
 // Where the default of the next place stands, once there are more values.
@@ -89,10 +81,7 @@ fn less(a: usize, b: usize) -> usize
 pub fn moved_on(room: &[u32], from: usize, made: usize, more: usize) -> usize
     ensures { MovesOn room.now from made more result }
 {
-    match after(room, from, less(more, made)) {
-        Some(next) => next,
-        None => from,
-    }
+    after(room, from, more.saturating_sub(made)).unwrap_or(from)
 }
 
 // The defaults of the places that are left.
@@ -102,7 +91,7 @@ pub fn remaining(l: Filling) -> Filling
 {
     Filling {
         from: l.from,
-        places: less(l.places, l.made),
+        places: l.places.saturating_sub(l.made),
         made: 0,
         size: 0,
     }
@@ -117,217 +106,183 @@ fn copy_list(
     l: Filling,
     room: &mut [u32],
     at: usize,
-) -> Listed
+) -> Result<Listed, Unbuilt>
     ensures { CopiesList values nodes times l room.old at result room.new }
 {
-    match may_copy(times, l.places, l.made, l.size, values, nodes) {
-        Ok(()) => match repeat(room, at, nodes, times) {
-            Ok(end) => Listed::Ends {
-                end,
-                made: l.made + times * values,
-                size: l.size + times * nodes,
-            },
-            Err(Unfit::TooLarge) => Listed::None,
-            Err(Unfit::Outside) => Listed::None,
-        },
-        Err(Misfit::TooMany) => Listed::None,
-        Err(Misfit::TooLarge) => Listed::TooLarge,
-    }
+    allowed(may_copy(times, l.places, l.made, l.size, values, nodes))?;
+    let end = repeat(room, at, nodes, times)?;
+    Ok(Listed {
+        end,
+        made: l.made + times * values,
+        size: l.size + times * nodes,
+    })
 }
 
 #[tactic(auto, using(crate::proofs::Copying::lists))]
-pub fn push_copies(b: Listed, times: usize, l: Filling, room: &mut [u32], at: usize) -> Listed
+pub fn push_copies(
+    b: Result<Listed, Unbuilt>,
+    times: usize,
+    l: Filling,
+    room: &mut [u32],
+    at: usize,
+) -> Result<Listed, Unbuilt>
     ensures { PushesCopies b times l room.old at result room.new }
 {
-    match b {
-        Listed::Ends { end: _, made, size } => copy_list(made, size, times, l, room, at),
-        Listed::None => Listed::None,
-        Listed::TooLarge => Listed::TooLarge,
-        Listed::Wanted(d) => Listed::Wanted(d),
-    }
+    let values = b?;
+    copy_list(values.made, values.size, times, l, room, at)
 }
 
 // A tree between two places becomes the next value of an array, where it may be added.
 #[tactic(auto, using(crate::proofs::Copying::pushes))]
-fn push_words(begin: usize, end: usize, l: Filling, room: &mut [u32], at: usize) -> Listed
+fn push_words(
+    begin: usize,
+    end: usize,
+    l: Filling,
+    room: &mut [u32],
+    at: usize,
+) -> Result<Listed, Unbuilt>
     ensures { PushesWords begin end l room.old at result room.new }
 {
     let nodes = nodes_between(begin, end);
-    match may_add(l.places, l.made, l.size, 1, nodes) {
-        Ok(()) => match copy_words(room, begin, end, at) {
-            Some(to) => Listed::Ends {
-                end: to,
-                made: l.made + 1,
-                size: l.size + nodes,
-            },
-            None => Listed::None,
-        },
-        Err(Misfit::TooMany) => Listed::None,
-        Err(Misfit::TooLarge) => Listed::TooLarge,
-    }
+    allowed(may_add(l.places, l.made, l.size, 1, nodes))?;
+    let to = copy_words(room, begin, end, at).ok_or(Unbuilt::None)?;
+    Ok(Listed {
+        end: to,
+        made: l.made + 1,
+        size: l.size + nodes,
+    })
 }
 
 // n() takes each place's own default.
 #[tactic(auto, using(crate::proofs::Copying::laws))]
-fn next_default(l: Filling, room: &mut [u32], at: usize) -> Listed
+fn next_default(l: Filling, room: &mut [u32], at: usize) -> Result<Listed, Unbuilt>
     ensures { NextDefault l room.old at result room.new }
 {
-    if l.made < l.places {
-        match whole(&room[..], l.from) {
-            Some(end) => push_words(l.from, end, l, room, at),
-            None => Listed::None,
-        }
-    } else {
-        Listed::None
+    if l.places <= l.made {
+        return Err(Unbuilt::None);
     }
+    let end = whole(&room[..], l.from).ok_or(Unbuilt::None)?;
+    push_words(l.from, end, l, room, at)
 }
 
 #[tactic(auto, using(crate::proofs::Gathering::laws))]
-fn each_default(times: usize, l: Filling, room: &mut [u32], at: usize) -> Listed
+fn each_default(times: usize, l: Filling, room: &mut [u32], at: usize) -> Result<Listed, Unbuilt>
     ensures { EachDefault times l room.old at result room.new }
 {
-    let mut left = times;
-    let mut from = l.from;
+    let mut now = l;
     let mut to = at;
-    let mut made = l.made;
-    let mut size = l.size;
-    while left > 0 {
-        let r = next_default(
-            Filling {
-                from,
-                places: l.places,
-                made,
-                size,
-            },
-            room,
-            to,
-        );
-        let Listed::Ends {
-            end: e,
-            made: m,
-            size: n,
-        } = r
-        else {
-            return r;
+    for _ in 0..times {
+        let next = next_default(now, room, to)?;
+        now = Filling {
+            from: moved_on(&room[..], now.from, now.made, next.made),
+            places: l.places,
+            made: next.made,
+            size: next.size,
         };
-        from = moved_on(&room[..], from, made, m);
-        to = e;
-        made = m;
-        size = n;
-        left -= 1;
+        to = next.end;
     }
-    Listed::Ends {
+    Ok(Listed {
         end: to,
-        made,
-        size,
-    }
+        made: now.made,
+        size: now.size,
+    })
 }
 
 #[tactic(auto, using(crate::proofs::Gathering::laws))]
-pub fn push_defaults(times: usize, l: Filling, room: &mut [u32], at: usize) -> Listed
+pub fn push_defaults(
+    times: usize,
+    l: Filling,
+    room: &mut [u32],
+    at: usize,
+) -> Result<Listed, Unbuilt>
     ensures { PushesDefaults times l room.old at result room.new }
 {
     if times <= l.places {
         each_default(times, l, room, at)
     } else {
-        Listed::None
+        Err(Unbuilt::None)
     }
 }
 
 // The leading defaults, which stand at the front, give way to values behind them.
-fn fill_over(end: usize, values: usize, made: usize, places: usize, room: &mut [u32]) -> Listed
+fn fill_over(
+    end: usize,
+    values: usize,
+    made: usize,
+    places: usize,
+    room: &mut [u32],
+) -> Result<Listed, Unbuilt>
     ensures { FillsOver end values made places room.old result room.new }
 {
-    let Some(part) = after(&room[..], 0, made) else {
-        return Listed::None;
+    let part = after(&room[..], 0, made).ok_or(Unbuilt::None)?;
+    let front = Span {
+        begin: 0,
+        end: part,
     };
-    match replace(
-        room,
-        Span { begin: 0, end },
-        Span {
-            begin: 0,
-            end: part,
-        },
-        Span {
-            begin: end,
-            end: values,
-        },
-    ) {
-        Ok(to) => {
-            let size = to / NODE_WORDS;
-            if may_gather(0, size) {
-                Listed::Ends {
-                    end: to,
-                    made: places,
-                    size,
-                }
-            } else {
-                Listed::TooLarge
-            }
-        }
-        Err(Unfit::TooLarge) => Listed::TooLarge,
-        Err(Unfit::Outside) => Listed::None,
+    let fresh = Span {
+        begin: end,
+        end: values,
+    };
+    let to = replace(room, Span { begin: 0, end }, front, fresh)?;
+    let size = to / NODE_WORDS;
+    if !may_gather(0, size) {
+        return Err(Unbuilt::TooLarge);
     }
+    Ok(Listed {
+        end: to,
+        made: places,
+        size,
+    })
 }
 
-pub fn fill_rest(b: Listed, end: usize, places: usize, room: &mut [u32]) -> Listed
+pub fn fill_rest(
+    b: Result<Listed, Unbuilt>,
+    end: usize,
+    places: usize,
+    room: &mut [u32],
+) -> Result<Listed, Unbuilt>
     ensures { FillsRest b end places room.old result room.new }
 {
-    match b {
-        Listed::Ends {
-            end: values,
-            made,
-            size: _,
-        } => fill_over(end, values, made, places, room),
-        Listed::None => Listed::None,
-        Listed::TooLarge => Listed::TooLarge,
-        Listed::Wanted(d) => Listed::Wanted(d),
-    }
-}
-
-// A count as a word, which it is.
-fn as_word(n: usize) -> u32
-    ensures { n ≤ 2047 → result ≡ n }
-{
-    if n <= 2047 { n as u32 } else { 0 }
+    let values = b?;
+    fill_over(end, values.end, values.made, places, room)
 }
 
 // An array's head over values that stand behind it, in the part that begins at `from`.
-fn put_head(end: usize, made: usize, at: usize, from: usize, room: &mut [u32]) -> Built
+fn put_head(
+    end: usize,
+    made: usize,
+    at: usize,
+    from: usize,
+    room: &mut [u32],
+) -> Result<usize, Unbuilt>
     ensures { PutsHead end made at from room.old result room.new }
 {
-    let count = as_word(made);
-    if fits(room.len(), from, end) {
-        match write_array(room, at, count) {
-            Some(_) => Built::Ends(from + end),
-            None => Built::None,
-        }
-    } else {
-        Built::None
+    if !fits(room.len(), from, end) {
+        return Err(Unbuilt::None);
     }
+    write_array(room, at, made.min(2047) as u32).ok_or(Unbuilt::None)?;
+    Ok(from + end)
 }
 
-pub fn array_head(b: Listed, at: usize, from: usize, room: &mut [u32]) -> Built
+pub fn array_head(
+    b: Result<Listed, Unbuilt>,
+    at: usize,
+    from: usize,
+    room: &mut [u32],
+) -> Result<usize, Unbuilt>
     ensures { Heads b at from room.old result room.new }
 {
-    match b {
-        Listed::Ends { end, made, size: _ } => put_head(end, made, at, from, room),
-        Listed::None => Built::None,
-        Listed::TooLarge => Built::TooLarge,
-        Listed::Wanted(d) => Built::Wanted(d),
-    }
+    let values = b?;
+    put_head(values.end, values.made, at, from, room)
 }
 
 // A field in a structure: where it stands, its name and its place.
 #[derive(Clone, Copy)]
-pub enum Target {
-    At {
-        begin: usize,
-        end: usize,
-        name: u32,
-        place: Place,
-    },
-    None,
+pub struct Target {
+    pub begin: usize,
+    pub end: usize,
+    pub name: u32,
+    pub place: Place,
 }
 
 // The field of an entry's name in the structure at a place.
@@ -339,59 +294,40 @@ pub fn find_field(
     place: Place,
     room: &[u32],
     at: usize,
-) -> Target
+) -> Option<Target>
     requires { Classes file.now.source known.now × PlaceIn file.now.source place }
     ensures { Finds file.now.source place e room.now at result }
 {
     let name = file.source.word(ENTRIES, e, 1);
-    match find(room, at, name) {
-        Some(span) => {
-            match field_place(file, known, place, name) {
-                Some(inner) => Target::At {
-                    begin: span.begin,
-                    end: span.end,
-                    name,
-                    place: inner,
-                },
-                None => Target::None,
-            }
-        }
-        None => Target::None,
-    }
+    let span = find(room, at, name)?;
+    let inner = field_place(file, known, place, name)?;
+    Some(Target {
+        begin: span.begin,
+        end: span.end,
+        name,
+        place: inner,
+    })
 }
 
 // A member's new value, which stands behind the structure, takes its place there.
 #[tactic(auto, using(crate::proofs::Members::laws))]
 pub fn put_member(
-    b: Built,
+    b: Result<usize, Unbuilt>,
     at: usize,
     end: usize,
     begin: usize,
     upto: usize,
     name: u32,
     room: &mut [u32],
-) -> Built
+) -> Result<usize, Unbuilt>
     ensures { PutsMember b at end begin upto name room.old result room.new }
 {
-    match b {
-        Built::Ends(to) => {
-            match assign(
-                room,
-                Span { begin: at, end },
-                Span { begin, end: upto },
-                Span {
-                    begin: end,
-                    end: to,
-                },
-                name,
-            ) {
-                Ok(e) => Built::Ends(e),
-                Err(Unfit::TooLarge) => Built::TooLarge,
-                Err(Unfit::Outside) => Built::None,
-            }
-        }
-        Built::None => Built::None,
-        Built::TooLarge => Built::TooLarge,
-        Built::Wanted(d) => Built::Wanted(d),
-    }
+    let to = b?;
+    let part = Span { begin, end: upto };
+    let fresh = Span {
+        begin: end,
+        end: to,
+    };
+    let after = assign(room, Span { begin: at, end }, part, fresh, name)?;
+    Ok(after)
 }

@@ -8,7 +8,7 @@ ghost use Rattle.gather.specs.Room.{RoomThere, shapes_deep};
 ghost use Rattle.gather.specs.Elements.{EndsWhole, TakesHead, ElementDefaults};
 
 use crate::answers::Listed;
-use build::built::Built;
+use build::built::Unbuilt;
 use build::defaults;
 use build::spread::flatten_values;
 use definition::layout::NODE_WORDS;
@@ -16,23 +16,17 @@ use definition::records::{Place, Shape};
 use records::file::File;
 
 // The values of an array, moved to where its head was.
-fn take_head(b: Built, room: &mut [u32], at: usize) -> Listed
+fn take_head(b: Result<usize, Unbuilt>, room: &mut [u32], at: usize) -> Result<Listed, Unbuilt>
     requires { EndsWhole b room.old at }
     ensures { TakesHead b room.old at result room.new }
 {
-    match b {
-        Built::Ends(end) => {
-            let v = flatten_values(room, at, end);
-            Listed::Ends {
-                end: at + v.nodes * NODE_WORDS,
-                made: v.count as usize,
-                size: v.nodes,
-            }
-        }
-        Built::None => Listed::None,
-        Built::TooLarge => Listed::TooLarge,
-        Built::Wanted(d) => Listed::Wanted(d),
-    }
+    let end = b?;
+    let v = flatten_values(room, at, end);
+    Ok(Listed {
+        end: at + v.nodes * NODE_WORDS,
+        made: v.count as usize,
+        size: v.nodes,
+    })
 }
 
 // Every element's default, listed flat.
@@ -43,7 +37,7 @@ pub fn element_defaults(
     place: Place,
     room: &mut [u32],
     at: usize,
-) -> Listed
+) -> Result<Listed, Unbuilt>
     requires { Ready file.now.source known.now store.now × PlaceIn file.now.source place × RoomThere room.old at (12282 + 24576 * shapes_deep file.now.source) }
     ensures { ElementDefaults file.now.source known.now store.now place room.old at result room.new }
 {
@@ -54,7 +48,7 @@ pub fn element_defaults(
         count,
     } = shape
     else {
-        return Listed::None;
+        return Err(Unbuilt::None);
     };
     let b = defaults::element_defaults(file, known, store, place, element, first, count, room, at);
     take_head(b, room, at)

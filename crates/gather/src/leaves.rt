@@ -1,7 +1,7 @@
 // Values without parts.
 #![tactic(auto, using(crate::proofs::Single::laws))]
 
-ghost use Rattle.std.specs.Prelude.{◌≡◌, ℕ, ◌+◌, ◌*◌, ◌<◌};
+ghost use Rattle.std.specs.Prelude.{◌≡◌, ℕ, ◌+◌, ◌*◌, ◌<◌, Ok};
 ghost use Rattle.definition.specs.Layout as Layout;
 ghost use Rattle.definition.specs.Layout.{entries};
 ghost use Rattle.definition.specs.Records.{entry_at};
@@ -9,17 +9,16 @@ ghost use Rattle.definition.specs.Scalar.{as_tree};
 ghost use Rattle.definition.specs.Ask.{result_of};
 ghost use Rattle.places.specs.Inside.{ShapeIn, PlaceIn};
 ghost use Rattle.tree_changes.specs.Limit.{added_of};
-ghost use Rattle.gather.specs.declared.answers.Listed.TheVariants.{Ends};
-ghost use Rattle.gather.specs.Leaves.{simple_of, on_added, Puts, Pushes, PushesTree, PushesSimple, PutsSimple};
+ghost use Rattle.gather.specs.Leaves.{simple_of, allowed_of, on_added, Pushes, PushesTree, PushesSimple, PutsSimple};
 
 use crate::answers::{Filling, Listed};
-use build::built::Built;
+use build::built::Unbuilt;
+use build::leaves::put_leaf;
 use definition::layout::NODE_WORDS;
 use definition::records::{Constant, Entry, Place, Shape};
 use places::expressions::expression;
 use places::values::{constant_value, enumerated_value};
 use records::file::File;
-use tree::node::write_leaf;
 use tree_changes::limit::{Misfit, may_add};
 
 // What a constant, an enumerated value or an expression gives a place.
@@ -38,19 +37,6 @@ pub fn simple(file: &File<'_>, shape: Shape, e: u32) -> Option<Constant>
     }
 }
 
-// Writes a value at a place.
-pub fn put_leaf(value: Option<Constant>, room: &mut [u32], at: usize) -> Built
-    ensures { Puts value room.old at result room.new }
-{
-    match value {
-        Some(c) => match write_leaf(room, at, c.kind, c.sign, c.low, c.high, c.width) {
-            Some(end) => Built::Ends(end),
-            None => Built::None,
-        },
-        None => Built::None,
-    }
-}
-
 // How many nodes lie between two places.
 pub fn nodes_between(from: usize, to: usize) -> usize
     ensures { (k : ℕ) → to ≡ from + 6 * k → result ≡ k }
@@ -61,38 +47,44 @@ pub fn nodes_between(from: usize, to: usize) -> usize
     (to - from) / NODE_WORDS
 }
 
-// One value more.
-fn push_one(l: Filling, end: usize, nodes: usize) -> Listed
-    ensures { result ≡ on_added (added_of l.places l.made l.size 1 nodes) (Ends end (l.made + 1) (l.size + nodes)) }
+// Whether values fit, as a building function says it: more values than places are none.
+pub fn allowed(test: Result<(), Misfit>) -> Result<(), Unbuilt>
+    ensures { result ≡ allowed_of test }
 {
-    match may_add(l.places, l.made, l.size, 1, nodes) {
-        Ok(()) => Listed::Ends {
-            end,
-            made: l.made + 1,
-            size: l.size + nodes,
-        },
-        Err(Misfit::TooMany) => Listed::None,
-        Err(Misfit::TooLarge) => Listed::TooLarge,
+    match test {
+        Ok(()) => Ok(()),
+        Err(Misfit::TooMany) => Err(Unbuilt::None),
+        Err(Misfit::TooLarge) => Err(Unbuilt::TooLarge),
     }
+}
+
+// One value more.
+fn push_one(l: Filling, end: usize, nodes: usize) -> Result<Listed, Unbuilt>
+    ensures { result ≡ on_added (added_of l.places l.made l.size 1 nodes) (Ok (record { end = end; made = l.made + 1; size = l.size + nodes })) }
+{
+    allowed(may_add(l.places, l.made, l.size, 1, nodes))?;
+    Ok(Listed {
+        end,
+        made: l.made + 1,
+        size: l.size + nodes,
+    })
 }
 
 // A tree at a place becomes the next value of an array.
-pub fn push_tree(b: Built, l: Filling, at: usize) -> Listed
+pub fn push_tree(b: Result<usize, Unbuilt>, l: Filling, at: usize) -> Result<Listed, Unbuilt>
     ensures { PushesTree b l at result }
 {
-    match b {
-        Built::Ends(end) => {
-            let nodes = nodes_between(at, end);
-            push_one(l, end, nodes)
-        }
-        Built::None => Listed::None,
-        Built::TooLarge => Listed::TooLarge,
-        Built::Wanted(d) => Listed::Wanted(d),
-    }
+    let end = b?;
+    push_one(l, end, nodes_between(at, end))
 }
 
 // Writes the next value of an array.
-pub fn push_leaf(value: Option<Constant>, l: Filling, room: &mut [u32], at: usize) -> Listed
+pub fn push_leaf(
+    value: Option<Constant>,
+    l: Filling,
+    room: &mut [u32],
+    at: usize,
+) -> Result<Listed, Unbuilt>
     ensures { Pushes value l room.old at result room.new }
 {
     let b = put_leaf(value, room, at);
@@ -108,7 +100,7 @@ pub fn push_simple(
     l: Filling,
     room: &mut [u32],
     at: usize,
-) -> Listed
+) -> Result<Listed, Unbuilt>
     requires { PlaceIn file.now.source leaf × (e < Layout.count file.now.source entries) }
     ensures { PushesSimple file.now.source e leaf l room.old at result room.new }
 {
@@ -119,7 +111,13 @@ pub fn push_simple(
 
 // And a member.
 #[tactic(auto, using(crate::proofs::Single::simples))]
-pub fn put_simple(file: &File<'_>, e: u32, place: Place, room: &mut [u32], at: usize) -> Built
+pub fn put_simple(
+    file: &File<'_>,
+    e: u32,
+    place: Place,
+    room: &mut [u32],
+    at: usize,
+) -> Result<usize, Unbuilt>
     requires { PlaceIn file.now.source place × (e < Layout.count file.now.source entries) }
     ensures { PutsSimple file.now.source e place room.old at result room.new }
 {

@@ -6,9 +6,9 @@ use Rattle.definition.specs.declared.records.Place.{Place}
 use Rattle.definition.specs.Tree.{flatten}
 use Rattle.definition.specs.Ask.{Result, ok, none, Outcome, Ask, done, bind, ◌>>=◌, nothing}
 use Rattle.laws.specs.Steps.{peek-nothing}
-use Rattle.build.specs.declared.built.Built.{Built}
-use Rattle.build.specs.declared.built.Built.TheVariants.{None}
-use Rattle.build.specs.Built.{Builds}
+use Rattle.std.specs.Prelude.{Err}
+use Rattle.build.specs.declared.built.Unbuilt.TheVariants as unbuilt
+use Rattle.build.specs.Built.{Built, Builds}
 use Rattle.initial.specs.Stated.{Lays}
 
 module _ {A : Type 0} {f known store : List ℕ} {words : A → List ℕ} {at : ℕ} {old : List ℕ} {r : Built} {new : List ℕ} where
@@ -18,7 +18,7 @@ module _ {A : Type 0} {f known store : List ℕ} {words : A → List ℕ} {at : 
 pub laid : {f known store : List ℕ} {at : ℕ} {old : List ℕ} {r : Built} {new : List ℕ} (m n : Ask Outcome) → n ≡ m → Lays m at old r new → Builds f known store flatten n at old r new
 laid m n e h = record { gives = λ M x. rw e (h.gives M); kept = h.kept }
 
-pub no_value_lem : {f known store : List ℕ} {at : ℕ} {old : List ℕ} (m : Ask Outcome) → m ≡ nothing → Builds f known store flatten m at old None old
+pub no_value_lem : {f known store : List ℕ} {at : ℕ} {old : List ℕ} (m : Ask Outcome) → m ≡ nothing → Builds f known store flatten m at old (Err unbuilt.None) old
 no_value_lem m e = record { gives = λ M x. rw (e, peek-nothing M) (record { says = refl; stands = tt }); kept = refl }
 
 -- a place that is found, or not

@@ -1,5 +1,5 @@
 -- The parts of initializers and declarations that building functions form one by one.
-use Rattle.std.specs.Prelude.{◌≡◌, Bool, true, List, ℕ, zero, suc, ◌+◌, ◌-◌, ◌*◌, ◌^◌, ◌≤◌, ◌<◌, eqb, take}
+use Rattle.std.specs.Prelude.{◌≡◌, Bool, true, List, ℕ, zero, suc, ◌+◌, ◌-◌, ◌*◌, ◌^◌, ◌≤◌, ◌<◌, eqb, take, Ok}
 use Rattle.definition.specs.declared.records.Place.{Place}
 use Rattle.definition.specs.Base.{pick, choose, on_link, inline}
 use Rattle.definition.specs.Layout.{word, count, elements, variables, initializers, entries, constants}
@@ -20,9 +20,7 @@ use Rattle.laws.specs.Peeking.{on_got}
 use Rattle.tree.specs.Words.{Stand}
 use Rattle.initial.specs.declared.values.Stated.{Stated}
 use Rattle.initial.specs.declared.values.Stated.TheVariants as stated
-use Rattle.build.specs.declared.built.Built.{Built}
-use Rattle.build.specs.declared.built.Built.TheVariants.{Ends}
-use Rattle.build.specs.Built.{Gives, Memory}
+use Rattle.build.specs.Built.{Built, Gives, Memory}
 
 -- ---- values that no memo is needed for
 pub record Lays (m : Ask Outcome) (at : ℕ) (old : List ℕ) (r : Built) (new : List ℕ) : Type 0 where
@@ -122,7 +120,7 @@ parts_from f place section k (suc n) made size =
 -- a part at `to`, under a head at `at`
 pub record BuildsPart (f known store : List ℕ) (place : Place) (section k at to : ℕ) (old : List ℕ) (r : Built) (new : List ℕ) : Type 0 where
   pub gives : (size : ℕ) → to ≡ at + 6 + 6 * size → (M : Memo) → Memory f known store M → Gives flatten_all (peek M (part_ask f place section k size)) to r new
-  pub ends : (e : ℕ) → r ≡ Ends e → (to ≤ e) × (e ≤ at + tree_words)
+  pub ends : (e : ℕ) → r ≡ Ok e → (to ≤ e) × (e ≤ at + tree_words)
   pub kept : take to new ≡ take to old
 
 -- elements where the section is that of the elements, otherwise variables

@@ -1,4 +1,6 @@
 // Arrays and member lists, as `entries` forms them.
+#![tactic(auto, using(crate::proofs::given::Laws::laws))]
+
 ghost use Rattle.std.specs.Prelude.{◌+◌, ◌*◌, ◌≤◌, length};
 ghost use Rattle.definition.specs.Starting.{array_of};
 ghost use Rattle.definition.specs.Tree.{flatten, tree_words};
@@ -7,7 +9,7 @@ ghost use Rattle.build.specs.Built.{Ready, Builds};
 ghost use Rattle.initial.specs.Stated.{ArrayIn, MembersIn, SmallAt, Applies};
 ghost use Rattle.initial.specs.Rooms.{entry_levels};
 
-use build::built::Built;
+use build::built::Unbuilt;
 use definition::records::Place;
 use entries::entries::array;
 use records::file::File;
@@ -24,7 +26,7 @@ pub fn array_of(
     many: u32,
     room: &mut [u32],
     at: usize,
-) -> Built
+) -> Result<usize, Unbuilt>
     requires { Ready file.now.source known.now store.now × PlaceIn file.now.source place × ArrayIn file.now.source first many × (at + entry_levels file.now.source first many place * tree_words ≤ length room.old) }
     ensures { Builds file.now.source known.now store.now flatten (array_of file.now.source place first many) at room.old result room.new }
 {
@@ -42,16 +44,13 @@ pub fn apply_members(
     room: &mut [u32],
     at: usize,
     end: usize,
-) -> Built
+) -> Result<usize, Unbuilt>
     requires { Ready file.now.source known.now store.now × PlaceIn file.now.source place × MembersIn file.now.source first many × SmallAt room.old at end × (at + entry_levels file.now.source first many place * tree_words ≤ length room.old) }
     ensures { Applies file.now.source known.now store.now place first many at end room.old result room.new }
 {
-    let value = match value_at(&room[..], at) {
-        Some(value) => value,
-        None => return Built::None,
-    };
+    let value = value_at(&room[..], at).ok_or(Unbuilt::None)?;
     let Value::Structure(count) = value else {
-        return Built::None;
+        return Err(Unbuilt::None);
     };
     write_structure(room, at, count);
     entries::entries::apply_members(file, known, store, first, many, place, room, at, end)

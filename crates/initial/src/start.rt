@@ -1,4 +1,6 @@
 // What an initializer gives a place (`initializer`).
+#![tactic(auto, using(crate::proofs::start::Laws::laws), unfolding(definition::specs::Defaults::initializer, definition::specs::Defaults::initializer_by, crate::specs::Stated::stated_or, crate::specs::Stated::stated_as, crate::specs::Stated::array_or, crate::specs::Stated::members_over, crate::specs::Rooms::init_levels, crate::specs::Rooms::init_levels_by))]
+
 ghost use Rattle.std.specs.Prelude.{◌+◌, ◌*◌, ◌≤◌, ◌<◌, length};
 ghost use Rattle.definition.specs.Layout.{count, initializers};
 ghost use Rattle.definition.specs.Starting as Defaults;
@@ -9,7 +11,7 @@ ghost use Rattle.initial.specs.Rooms.{init_levels};
 
 use crate::stated::{array_or_default, members_over_default, stated_or_default};
 use crate::values::Stated;
-use build::built::Built;
+use build::built::Unbuilt;
 use build::defaults::default_of;
 use definition::records::{Initializer, Place};
 use records::file::File;
@@ -23,14 +25,16 @@ pub fn initializer(
     i: u32,
     room: &mut [u32],
     at: usize,
-) -> Built
+) -> Result<usize, Unbuilt>
     requires { Ready file.now.source known.now store.now × PlaceIn file.now.source place × (i < count file.now.source initializers) × (at + init_levels file.now.source i place * tree_words ≤ length room.old) }
     ensures { Builds file.now.source known.now store.now flatten (Defaults.initializer file.now.source i place) at room.old result room.new }
 {
     let v = file.source.initializer(i);
     match v {
         Initializer::Nothing => default_of(file, known, store, place, room, at),
-        Initializer::Subrange { value } => stated_or_default(
+        Initializer::Subrange { value }
+        | Initializer::Simple { value }
+        | Initializer::String { value, .. } => stated_or_default(
             file,
             known,
             store,
@@ -40,47 +44,19 @@ pub fn initializer(
             room,
             at,
         ),
-        Initializer::Simple { value } => stated_or_default(
-            file,
-            known,
-            store,
-            place,
-            Stated::Constant,
-            value,
-            room,
-            at,
-        ),
-        Initializer::String {
-            value,
-            length: _,
-            width: _,
-        } => stated_or_default(file, known, store, place, Stated::Constant, value, room, at),
-        Initializer::EnumeratedValues { value } => stated_or_default(
-            file,
-            known,
-            store,
-            place,
-            Stated::Enumerated,
-            value,
-            room,
-            at,
-        ),
-        Initializer::EnumeratedType { value } => stated_or_default(
-            file,
-            known,
-            store,
-            place,
-            Stated::Enumerated,
-            value,
-            room,
-            at,
-        ),
-        Initializer::FunctionBlock { first, count } => members_over_default(
-            file, known, store, place, first, count, room, at,
-        ),
-        Initializer::Structure { first, count } => members_over_default(
-            file, known, store, place, first, count, room, at,
-        ),
+        Initializer::EnumeratedValues { value } | Initializer::EnumeratedType { value } =>
+            stated_or_default(
+                file,
+                known,
+                store,
+                place,
+                Stated::Enumerated,
+                value,
+                room,
+                at,
+            ),
+        Initializer::FunctionBlock { first, count } | Initializer::Structure { first, count } =>
+            members_over_default(file, known, store, place, first, count, room, at),
         Initializer::Array { first, count } => array_or_default(
             file, known, store, place, first, count, room, at,
         ),
@@ -104,6 +80,6 @@ pub fn initializer(
             room,
             at,
         ),
-        _ => Built::None,
+        _ => Err(Unbuilt::None),
     }
 }

@@ -1,4 +1,6 @@
 // What is stated for a place, or else another default.
+#![tactic(auto, using(crate::proofs::stated::Laws::laws), unfolding(crate::specs::Stated::stated_or, crate::specs::Stated::array_or, definition::specs::Parts::name_default, definition::specs::Defaults::spec_default))]
+
 ghost use Rattle.std.specs.Prelude.{◌≡◌, ◌+◌, ◌*◌, ◌≤◌, ◌<◌, length};
 ghost use Rattle.definition.specs.Starting as Defaults;
 ghost use Rattle.definition.specs.Parts.{name_default};
@@ -15,7 +17,7 @@ ghost use Rattle.initial.specs.Rooms.{entry_levels};
 
 use crate::given::{apply_members, array_of};
 use crate::values::{Stated, stated_start};
-use build::built::Built;
+use build::built::Unbuilt;
 use build::defaults::{default_of, implicit};
 use build::remembered::type_default;
 use definition::layout::INLINE;
@@ -33,7 +35,7 @@ pub fn stated_or_default(
     value: u32,
     room: &mut [u32],
     at: usize,
-) -> Built
+) -> Result<usize, Unbuilt>
     requires { Ready file.now.source known.now store.now × PlaceIn file.now.source place × ValueIn file.now.source what value × (at + start_levels file.now.source place * tree_words ≤ length room.old) }
     ensures { Builds file.now.source known.now store.now flatten (stated_or file.now.source what place value (default_of file.now.source place)) at room.old result room.new }
 {
@@ -52,7 +54,7 @@ pub fn constant_or_implicit(
     value: u32,
     room: &mut [u32],
     at: usize,
-) -> Built
+) -> Result<usize, Unbuilt>
     requires { Ready file.now.source known.now store.now × PlaceIn file.now.source place × ValueIn file.now.source stated.Constant value × (at + implicit_levels file.now.source place * tree_words ≤ length room.old) }
     ensures { Builds file.now.source known.now store.now flatten (stated_or file.now.source stated.Constant place value (Defaults.implicit file.now.source place)) at room.old result room.new }
 {
@@ -72,7 +74,7 @@ pub fn array_or_default(
     many: u32,
     room: &mut [u32],
     at: usize,
-) -> Built
+) -> Result<usize, Unbuilt>
     requires { Ready file.now.source known.now store.now × PlaceIn file.now.source place × ArrayIn file.now.source first many × (at + start_levels file.now.source place * tree_words ≤ length room.old) × (at + entry_levels file.now.source first many place * tree_words ≤ length room.old) }
     ensures { Builds file.now.source known.now store.now flatten (array_or file.now.source place first many (default_of file.now.source place)) at room.old result room.new }
 {
@@ -92,14 +94,11 @@ pub fn members_over_default(
     many: u32,
     room: &mut [u32],
     at: usize,
-) -> Built
+) -> Result<usize, Unbuilt>
     requires { Ready file.now.source known.now store.now × PlaceIn file.now.source place × MembersIn file.now.source first many × (at + start_levels file.now.source place * tree_words ≤ length room.old) × (at + entry_levels file.now.source first many place * tree_words ≤ length room.old) }
     ensures { Builds file.now.source known.now store.now flatten (members_over file.now.source place first many (default_of file.now.source place)) at room.old result room.new }
 {
-    let r = default_of(file, known, store, place, room, at);
-    let Built::Ends(end) = r else {
-        return r;
-    };
+    let end = default_of(file, known, store, place, room, at)?;
     apply_members(file, known, store, place, first, many, room, at, end)
 }
 
@@ -111,12 +110,12 @@ pub fn name_default(
     name: u32,
     room: &mut [u32],
     at: usize,
-) -> Built
+) -> Result<usize, Unbuilt>
     requires { Link (IsType file.now) name × (index_at ≤ length known.now) × (at + tree_words ≤ length room.old) }
     ensures { Builds file.now known.now store.now flatten (name_default name) at room.old result room.new }
 {
     if name == 0 {
-        return Built::None;
+        return Err(Unbuilt::None);
     }
     type_default(file, known, store, name - 1, room, at)
 }
@@ -130,7 +129,7 @@ pub fn spec_default(
     name: u32,
     room: &mut [u32],
     at: usize,
-) -> Built
+) -> Result<usize, Unbuilt>
     requires { Ready file.now.source known.now store.now × PlaceIn file.now.source place × SpecIn file.now.source name × (at + implicit_levels file.now.source place * tree_words ≤ length room.old) }
     ensures { Builds file.now.source known.now store.now flatten (spec_default file.now.source place name) at room.old result room.new }
 {
@@ -150,7 +149,7 @@ pub fn constant_or_named(
     name: u32,
     room: &mut [u32],
     at: usize,
-) -> Built
+) -> Result<usize, Unbuilt>
     requires { Ready file.now.source known.now store.now × PlaceIn file.now.source place × ValueIn file.now.source stated.Constant value × Link (IsType file.now.source) name × (at + tree_words ≤ length room.old) }
     ensures { Builds file.now.source known.now store.now flatten (stated_or file.now.source stated.Constant place value (name_default name)) at room.old result room.new }
 {
@@ -171,7 +170,7 @@ pub fn array_or_spec(
     many: u32,
     room: &mut [u32],
     at: usize,
-) -> Built
+) -> Result<usize, Unbuilt>
     requires { Ready file.now.source known.now store.now × PlaceIn file.now.source place × SpecIn file.now.source name × ArrayIn file.now.source first many × (at + implicit_levels file.now.source place * tree_words ≤ length room.old) × (at + entry_levels file.now.source first many place * tree_words ≤ length room.old) }
     ensures { Builds file.now.source known.now store.now flatten (array_or file.now.source place first many (spec_default file.now.source place name)) at room.old result room.new }
 {
@@ -192,13 +191,10 @@ pub fn members_over_named(
     many: u32,
     room: &mut [u32],
     at: usize,
-) -> Built
+) -> Result<usize, Unbuilt>
     requires { Ready file.now.source known.now store.now × PlaceIn file.now.source place × Link (IsType file.now.source) name × MembersIn file.now.source first many × (at + tree_words ≤ length room.old) × (at + entry_levels file.now.source first many place * tree_words ≤ length room.old) }
     ensures { Builds file.now.source known.now store.now flatten (members_over file.now.source place first many (name_default name)) at room.old result room.new }
 {
-    let r = name_default(&file.source, known, store, name, room, at);
-    let Built::Ends(end) = r else {
-        return r;
-    };
+    let end = name_default(&file.source, known, store, name, room, at)?;
     apply_members(file, known, store, place, first, many, room, at, end)
 }

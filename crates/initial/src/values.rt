@@ -1,4 +1,6 @@
 // Values of one node that an initializer states.
+#![tactic(auto, using(crate::proofs::values::Laws::laws))]
+
 ghost use Rattle.std.specs.Prelude.{◌≡◌, ◌+◌, ◌≤◌, ◌<◌, eqb, length};
 ghost use Rattle.definition.specs.Ask.{ok, give};
 ghost use Rattle.definition.specs.Base.{pick};
@@ -12,7 +14,7 @@ ghost use Rattle.definition.specs.Ask.{result_of};
 ghost use Rattle.places.specs.Inside.{PlaceIn};
 ghost use Rattle.initial.specs.Stated.{stated_as, StatedIn, Lays};
 
-use build::built::Built;
+use build::built::Unbuilt;
 use build::leaves::put_leaf;
 use definition::layout::{ENTRIES, EXPRESSIONS};
 use definition::records::{Constant, Place};
@@ -31,7 +33,13 @@ pub enum Stated {
 }
 
 // A constant.
-pub fn constant_start(file: &File<'_>, place: Place, c: u32, room: &mut [u32], at: usize) -> Built
+pub fn constant_start(
+    file: &File<'_>,
+    place: Place,
+    c: u32,
+    room: &mut [u32],
+    at: usize,
+) -> Result<usize, Unbuilt>
     requires { PlaceIn file.now.source place × (c < Layout.count file.now.source constants) × (at + 6 ≤ length room.old) }
     ensures { Lays (constant_as file.now.source place c) at room.old result room.new }
 {
@@ -41,7 +49,13 @@ pub fn constant_start(file: &File<'_>, place: Place, c: u32, room: &mut [u32], a
 }
 
 // An enumerated value.
-fn enumerated_start(file: &File<'_>, place: Place, e: u32, room: &mut [u32], at: usize) -> Built
+fn enumerated_start(
+    file: &File<'_>,
+    place: Place,
+    e: u32,
+    room: &mut [u32],
+    at: usize,
+) -> Result<usize, Unbuilt>
     requires { PlaceIn file.now.source place × (at + 6 ≤ length room.old) }
     ensures { Lays (enumerated_as file.now.source place e) at room.old result room.new }
 {
@@ -62,7 +76,7 @@ fn reference_leaf(file: &Source<'_>, x: u32) -> Option<Constant>
     Some(node::reference(x))
 }
 
-fn reference_start(file: &Source<'_>, x: u32, room: &mut [u32], at: usize) -> Built
+fn reference_start(file: &Source<'_>, x: u32, room: &mut [u32], at: usize) -> Result<usize, Unbuilt>
     requires { (at + 6 ≤ length room.old) }
     ensures { Lays (reference_as file.now x) at room.old result room.new }
 {
@@ -71,6 +85,7 @@ fn reference_start(file: &Source<'_>, x: u32, room: &mut [u32], at: usize) -> Bu
 }
 
 // The value that a place is stated to have.
+#[tactic(auto, using(crate::proofs::values::Laws::laws), unfolding(crate::specs::Stated::stated_as))]
 pub fn stated_start(
     file: &File<'_>,
     place: Place,
@@ -78,7 +93,7 @@ pub fn stated_start(
     n: u32,
     room: &mut [u32],
     at: usize,
-) -> Built
+) -> Result<usize, Unbuilt>
     requires { PlaceIn file.now.source place × StatedIn file.now.source what n × (at + 6 ≤ length room.old) }
     ensures { Lays (stated_as file.now.source what place n) at room.old result room.new }
 {
@@ -86,11 +101,11 @@ pub fn stated_start(
         Stated::Constant => constant_start(file, place, n, room, at),
         Stated::Enumerated => enumerated_start(file, place, n, room, at),
         Stated::Reference => reference_start(&file.source, n, room, at),
-        Stated::Nothing => Built::None,
+        Stated::Nothing => Err(Unbuilt::None),
     }
 }
 
-pub fn null_start(room: &mut [u32], at: usize) -> Built
+pub fn null_start(room: &mut [u32], at: usize) -> Result<usize, Unbuilt>
     requires { at + 6 ≤ length room.old }
     ensures { Lays (give null_tree) at room.old result room.new }
 {

@@ -1,4 +1,6 @@
 // What a variable starts with (`declaration`).
+#![tactic(auto, using(crate::proofs::variable::Laws::laws), unfolding(crate::specs::Stated::variable_start, definition::specs::Defaults::declaration))]
+
 ghost use Rattle.std.specs.Prelude.{◌≡◌, ◌||◌, ◌+◌, ◌*◌, ◌≤◌, ◌<◌, eqb, length};
 ghost use Rattle.definition.specs.Layout as Layout;
 ghost use Rattle.definition.specs.Layout.{variables};
@@ -9,7 +11,7 @@ ghost use Rattle.initial.specs.Stated.{variable_start};
 ghost use Rattle.initial.specs.Rooms.{variable_levels};
 
 use crate::start::initializer;
-use build::built::Built;
+use build::built::Unbuilt;
 use definition::layout::VARIABLES;
 use places::field::variable_place;
 use records::file::File;
@@ -34,17 +36,17 @@ pub fn declaration(
     v: u32,
     room: &mut [u32],
     at: usize,
-) -> Built
+) -> Result<usize, Unbuilt>
     requires { Ready file.now.source known.now store.now × (v < Layout.count file.now.source variables) × (at + variable_levels file.now.source v * tree_words ≤ length room.old) }
     ensures { Builds file.now.source known.now store.now flatten (Defaults.declaration file.now.source v) at room.old result room.new }
 {
     if is_outside(&file.source, v) {
-        return Built::None;
+        return Err(Unbuilt::None);
     }
     let i = file.source.word(VARIABLES, v, 3);
     match variable_place(&file.source, v, i) {
         Some(place) => initializer(file, known, store, place, i, room, at),
-        None => Built::None,
+        None => Err(Unbuilt::None),
     }
 }
 
@@ -56,12 +58,12 @@ pub fn variable_start(
     v: u32,
     room: &mut [u32],
     at: usize,
-) -> Built
+) -> Result<usize, Unbuilt>
     requires { Ready file.now.source known.now store.now × (v < Layout.count file.now.source variables) × (at + variable_levels file.now.source v * tree_words ≤ length room.old) }
     ensures { Builds file.now.source known.now store.now flatten (variable_start file.now.source v) at room.old result room.new }
 {
     if file.source.word(VARIABLES, v, 0) == 0 {
-        return Built::None;
+        return Err(Unbuilt::None);
     }
     declaration(file, known, store, v, room, at)
 }

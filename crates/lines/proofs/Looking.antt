@@ -7,20 +7,20 @@ use lib.Dec.{leb}
 use lib.ListN.{length, get_or}
 use borrow.Author.Tests.{ne_eqb, lt-ltb, le-ltb}
 use Rattle.tree.proofs.Writes.{writes}
-use Rattle.lines.specs.declared.look.Remembered.{Remembered}
-use Rattle.lines.specs.declared.look.Remembered.TheVariants.{Unknown, None, TooLarge, Tree}
-use Rattle.lines.specs.Look.{state_of, line_of, word_of, remembered_of}
+use Rattle.std.specs.Prelude.{Err}
+use Rattle.lines.specs.declared.look.Absent.TheVariants.{Unknown, None, TooLarge}
+use Rattle.lines.specs.Look.{Remembered, there, state_of, line_of, word_of, remembered_of}
 
 module _ (state at count : ℕ) where
-  pub state-tree : state ≡ 0 → Tree at count ≡ state_of state at count
+  pub state-tree : state ≡ 0 → there at count ≡ state_of state at count
   unfolding state_of
   state-tree e = rw e
 
-  pub state-large : state ≡ 2 → TooLarge ≡ state_of state at count
+  pub state-large : state ≡ 2 → Err TooLarge ≡ state_of state at count
   unfolding state_of
   state-large e = rw e
 
-  pub state-none : (state ≡ 0 → ⊥) → (state ≡ 2 → ⊥) → None ≡ state_of state at count
+  pub state-none : (state ≡ 0 → ⊥) → (state ≡ 2 → ⊥) → Err None ≡ state_of state at count
   unfolding state_of
   state-none d e = rw (ne_eqb state 0 d, ne_eqb state 2 e)
 
@@ -29,16 +29,16 @@ module _ (store : List ℕ) (at : ℕ) {b : Bool} (e : b ≡ leb (at + 3) (lengt
   unfolding line_of
   line-is t i = let k : leb (at + 3) (length store) ≡ true = sym e ∙ t in rw (k, i)
 
-  pub line-past : b ≡ false → None ≡ line_of store at
+  pub line-past : b ≡ false → Err None ≡ line_of store at
   unfolding line_of
   line-past t = let k : leb (at + 3) (length store) ≡ false = sym e ∙ t in rw k
 
 module _ (store : List ℕ) (word : ℕ) where
-  pub word-unknown : word ≡ 0 → Unknown ≡ word_of store word
+  pub word-unknown : word ≡ 0 → Err Unknown ≡ word_of store word
   unfolding word_of
   word-unknown e = rw e
 
-  pub word_none : word ≡ 1 → None ≡ word_of store word
+  pub word_none : word ≡ 1 → Err None ≡ word_of store word
   unfolding word_of
   word_none e = rw e
 
@@ -51,7 +51,7 @@ module _ (index store : List ℕ) (t : ℕ) where
   unfolding remembered_of
   up_is h i = rw (lt-ltb t (length index) h, i)
 
-  pub up-past : length index ≤ t → None ≡ remembered_of index store t
+  pub up-past : length index ≤ t → Err None ≡ remembered_of index store t
   unfolding remembered_of
   up-past h = rw (le-ltb t (length index) h)
 

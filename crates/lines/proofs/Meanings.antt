@@ -23,11 +23,11 @@ use Rattle.laws.specs.Whole.{flatten-length}
 use Rattle.tree.specs.Words.{Stand}
 use Rattle.tree.proofs.Stands.{take-drop, stand-rest, stand-back}
 use Rattle.tree.proofs.Standing.{paste-stands}
-use Rattle.lines.specs.declared.look.Remembered.{Remembered}
-use Rattle.lines.specs.declared.look.Remembered.TheVariants as look
+use Rattle.lines.specs.declared.look.Tree.{Tree}
+use Rattle.lines.specs.declared.look.Absent.TheVariants as absent
 use Rattle.lines.specs.declared.copy.Uncopied.{Uncopied}
 use Rattle.lines.specs.declared.copy.Uncopied.TheVariants.{Unknown, None, TooLarge, Full}
-use Rattle.lines.specs.Look.{state_of, line_of, word_of, remembered_of}
+use Rattle.lines.specs.Look.{Remembered, there, state_of, line_of, word_of, remembered_of}
 use Rattle.lines.specs.Copy.{copied_of, copied_words, Copies}
 use Rattle.lines.specs.Memory.{LineAt, Holds, Remembers, TreeThere, Looks, CopyThere, CopyFull, CopyLooks}
 use Rattle.lines.proofs.Looking.{word-unknown, word_none, word_line, up_is}
@@ -78,16 +78,16 @@ module _ {index store : List ℕ} {end : ℕ} {M : Memo} (x : Remembers index st
 
   -- the same by cases, as a `match` on what was read has them
   module _ {r : Remembered} (e : r ≡ remembered_of index store t) where
-    pub looks-unknown : r ≡ look.Unknown → at M t ≡ unknown
+    pub looks-unknown : r ≡ Err absent.Unknown → at M t ≡ unknown
     looks-unknown i = rw (sym e ∙ i) at looks
 
-    pub looks-none : r ≡ look.None → at M t ≡ known none
+    pub looks-none : r ≡ Err absent.None → at M t ≡ known none
     looks-none i = rw (sym e ∙ i) at looks
 
-    pub looks-large : r ≡ look.TooLarge → at M t ≡ known large
+    pub looks-large : r ≡ Err absent.TooLarge → at M t ≡ known large
     looks-large i = rw (sym e ∙ i) at looks
 
-    pub looks-tree : {a n : ℕ} → r ≡ look.Tree a n → TreeThere store a n (at M t)
+    pub looks-tree : {y : Tree} → r ≡ Ok y → TreeThere store y.at y.nodes (at M t)
     looks-tree i = rw (sym e ∙ i) at looks
 
 -- ---- a computation that asks for the type
@@ -101,25 +101,25 @@ asks-unknown M t k e = rw e
 
 -- so each case of what was read is the default that is asked for, or that it is wanted
 module _ {index store : List ℕ} {end : ℕ} {M : Memo} (x : Remembers index store end M) (t : ℕ) (h : t < length M) {r : Remembered} (e : r ≡ remembered_of index store t) where
-  pub peeks-unknown : r ≡ look.Unknown → peek M (type_default t) ≡ wants t
+  pub peeks-unknown : r ≡ Err absent.Unknown → peek M (type_default t) ≡ wants t
   unfolding type_default
   peeks-unknown i = asks-unknown M t done (looks-unknown x t h e i)
 
-  pub peeks-none : r ≡ look.None → peek M (type_default t) ≡ got none
+  pub peeks-none : r ≡ Err absent.None → peek M (type_default t) ≡ got none
   unfolding type_default peek
   peeks-none i = asks-known M t none done (looks-none x t h e i)
 
-  pub peeks-large : r ≡ look.TooLarge → peek M (type_default t) ≡ got large
+  pub peeks-large : r ≡ Err absent.TooLarge → peek M (type_default t) ≡ got large
   unfolding type_default peek
   peeks-large i = asks-known M t large done (looks-large x t h e i)
 
-  pub peeks-tree : {a n : ℕ} (i : r ≡ look.Tree a n) → peek M (type_default t) ≡ got (ok (looks-tree x t h e i).tree)
+  pub peeks-tree : {y : Tree} (i : r ≡ Ok y) → peek M (type_default t) ≡ got (ok (looks-tree x t h e i).tree)
   unfolding type_default peek
   peeks-tree i = let y = looks-tree x t h e i in asks-known M t (ok y.tree) done y.is
 
 -- ---- copies
 module _ {store : List ℕ} (old : List ℕ) (p : ℕ) {r : Result ℕ Uncopied} {new : List ℕ} {l : Look} where
-  tree-copied : (a n : ℕ) → TreeThere store a n l → r ≡ copied_of (look.Tree a n) store old p → new ≡ copied_words (look.Tree a n) store old p → CopyLooks r old p new l
+  tree-copied : (a n : ℕ) → TreeThere store a n l → r ≡ copied_of (there a n) store old p → new ≡ copied_words (there a n) store old p → CopyLooks r old p new l
   unfolding copied_of copied_words
   tree-copied a n y z v = go (leb (p + n * 6) (length old)) refl (rw k at z) (rw k at v)
     where
@@ -144,10 +144,10 @@ module _ {index store : List ℕ} {end : ℕ} {M : Memo} (x : Remembers index st
   copy-looks = go (remembered_of index store t) refl (looks x t h)
     where
       go : (w : Remembered) → remembered_of index store t ≡ w → Looks w store (at M t) → CopyLooks r old p new (at M t)
-      go look.Unknown q y = let z : r ≡ Err Unknown = rw q at c.says in rw z (y, rw q at c.is)
-      go look.None q y = let z : r ≡ Err None = rw q at c.says in rw z (y, rw q at c.is)
-      go look.TooLarge q y = let z : r ≡ Err TooLarge = rw q at c.says in rw z (y, rw q at c.is)
-      go (look.Tree a n) q y = tree-copied old p a n y (rw q at c.says) (rw q at c.is)
+      go (Ok w) q y = tree-copied old p w.at w.nodes y (rw q at c.says) (rw q at c.is)
+      go (Err absent.Unknown) q y = let z : r ≡ Err Unknown = rw q at c.says in rw z (y, rw q at c.is)
+      go (Err absent.None) q y = let z : r ≡ Err None = rw q at c.says in rw z (y, rw q at c.is)
+      go (Err absent.TooLarge) q y = let z : r ≡ Err TooLarge = rw q at c.says in rw z (y, rw q at c.is)
 
   -- the same by cases
   pub copy-unknown : r ≡ Err Unknown → (at M t ≡ unknown) × (new ≡ old)

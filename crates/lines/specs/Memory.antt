@@ -8,10 +8,10 @@ use Rattle.definition.specs.Lines.{outcome_words}
 use Rattle.laws.specs.Asks.{OnOk}
 use Rattle.laws.specs.Values.{Small}
 use Rattle.tree.specs.Words.{Stand}
-use Rattle.lines.specs.declared.look.Remembered.{Remembered}
-use Rattle.lines.specs.declared.look.Remembered.TheVariants.{Unknown, None, TooLarge, Tree}
+use Rattle.lines.specs.declared.look.Absent.TheVariants.{Unknown, None, TooLarge}
 use Rattle.lines.specs.declared.copy.Uncopied.{Uncopied}
 use Rattle.lines.specs.declared.copy.Uncopied.TheVariants as copied
+use Rattle.lines.specs.Look.{Remembered}
 
 -- a line of o begins at p, with any rank, and lies within the first `end` words
 pub record LineAt (store : List ℕ) (end p : ℕ) (o : Outcome) : Type 0 where
@@ -47,10 +47,10 @@ pub record TreeThere (store : List ℕ) (at n : ℕ) (l : Look) : Type 0 where
   pub small : Small tree
 
 abbrev pub Looks : Remembered → List ℕ → Look → Type 0
-Looks Unknown store l = l ≡ unknown
-Looks None store l = l ≡ known none
-Looks TooLarge store l = l ≡ known large
-Looks (Tree at n) store l = TreeThere store at n l
+Looks (Ok x) store l = TreeThere store x.at x.nodes l
+Looks (Err Unknown) store l = l ≡ unknown
+Looks (Err None) store l = l ≡ known none
+Looks (Err TooLarge) store l = l ≡ known large
 
 -- ---- what is copied, of what is remembered
 -- a known tree's words are written at a place, up to an end

@@ -1,11 +1,11 @@
 // Nodes copied to another slice.
 #![tactic(auto, using(crate::proofs::Copying::copies))]
 
-ghost use Rattle.std.specs.Prelude.{◌*◌};
+ghost use Rattle.std.specs.Prelude.{◌≡◌, ◌*◌};
 ghost use Rattle.tree.specs.Words.{WroteCopy};
-ghost use Rattle.lines.specs.Copy.{Copies};
+ghost use Rattle.lines.specs.Copy.{Copies, uncopied_of};
 
-use crate::look::{Remembered, look_up};
+use crate::look::{Absent, look_up};
 use definition::layout::NODE_WORDS;
 use tree::words::{copy, nodes_fit};
 
@@ -16,6 +16,18 @@ pub enum Uncopied {
     None,
     TooLarge,
     Full,
+}
+
+impl From<Absent> for Uncopied {
+    ghost from_gives = { λ absent uncopied. uncopied ≡ uncopied_of absent };
+
+    fn from(absent: Absent) -> Uncopied {
+        match absent {
+            Absent::Unknown => Uncopied::Unknown,
+            Absent::None => Uncopied::None,
+            Absent::TooLarge => Uncopied::TooLarge,
+        }
+    }
 }
 
 // Copies so many nodes, and answers where they end.
@@ -40,12 +52,6 @@ pub fn copy_known(
 ) -> Result<usize, Uncopied>
     ensures { Copies index.now store.now t out.old at result out.new }
 {
-    match look_up(index, store, t) {
-        Remembered::Unknown => Err(Uncopied::Unknown),
-        Remembered::None => Err(Uncopied::None),
-        Remembered::TooLarge => Err(Uncopied::TooLarge),
-        Remembered::Tree { at: a, nodes } => {
-            copy_nodes(store, a, nodes, out, at).ok_or(Uncopied::Full)
-        }
-    }
+    let tree = look_up(index, store, t)?;
+    copy_nodes(store, tree.at, tree.nodes, out, at).ok_or(Uncopied::Full)
 }

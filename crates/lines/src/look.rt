@@ -11,28 +11,34 @@ pub const HEAD_WORDS: usize = 3;
 
 // A tree with so many nodes lies at a place of the store.
 #[derive(Clone, Copy)]
-pub enum Remembered {
+pub struct Tree {
+    pub at: usize,
+    pub nodes: usize,
+}
+
+// Why no tree is remembered of a type: nothing is known of it, or it has none, or one too large.
+#[derive(Clone, Copy)]
+pub enum Absent {
     Unknown,
     None,
     TooLarge,
-    Tree { at: usize, nodes: usize },
 }
 
 // A line's state, with its count and the place behind its head. A state that no line has reads as none.
-fn state(state: u32, at: usize, count: u32) -> Remembered
+fn state(state: u32, at: usize, count: u32) -> Result<Tree, Absent>
     ensures { result ≡ state_of state at count }
 {
     match state {
-        0 => Remembered::Tree {
+        0 => Ok(Tree {
             at,
             nodes: count as usize,
-        },
-        2 => Remembered::TooLarge,
-        _ => Remembered::None,
+        }),
+        2 => Err(Absent::TooLarge),
+        _ => Err(Absent::None),
     }
 }
 
-fn head(store: &[u32], at: usize) -> Remembered
+fn head(store: &[u32], at: usize) -> Result<Tree, Absent>
     requires { at + 3 ≤ length store.now }
     ensures { result ≡ state_of (get_or store.now (at + 1) 0) (at + 3) (get_or store.now (at + 2) 0) }
 {
@@ -40,35 +46,35 @@ fn head(store: &[u32], at: usize) -> Remembered
 }
 
 // The line at a place. None where the store ends before its head does.
-pub fn line(store: &[u32], at: usize) -> Remembered
+pub fn line(store: &[u32], at: usize) -> Result<Tree, Absent>
     ensures { result ≡ line_of store.now at }
 {
     if fits(store.len(), at, HEAD_WORDS) {
         head(store, at)
     } else {
-        Remembered::None
+        Err(Absent::None)
     }
 }
 
 // What a word of the index says.
-fn entry(store: &[u32], word: u32) -> Remembered
+fn entry(store: &[u32], word: u32) -> Result<Tree, Absent>
     ensures { result ≡ word_of store.now word }
 {
     match word {
-        0 => Remembered::Unknown,
-        1 => Remembered::None,
+        0 => Err(Absent::Unknown),
+        1 => Err(Absent::None),
         _ => line(store, word as usize - 2),
     }
 }
 
 // What is remembered of a type. One in progress has none, and so has a number past the index.
-pub fn look_up(index: &[u32], store: &[u32], t: u32) -> Remembered
+pub fn look_up(index: &[u32], store: &[u32], t: u32) -> Result<Tree, Absent>
     ensures { result ≡ remembered_of index.now store.now t }
 {
     let i = t as usize;
     if i < index.len() {
         entry(store, index[i])
     } else {
-        Remembered::None
+        Err(Absent::None)
     }
 }

@@ -7,16 +7,11 @@ use native.Mathlib.Omega.{arith}
 use lib.Dec.{leb}
 use lib.ListN.{length, take, drop, length-append}
 use borrow.Author.Rules.{rules}
-use borrow.Author.Tests.{ne_eqb, le-leb, lt-leb}
-use denote.Enum.Declared.{tag_of}
-use Rattle.definition.specs.Ask.{none, large}
+use borrow.Author.Tests.{le-leb, lt-leb}
 use Rattle.definition.specs.Starting.{variable_outcome}
 use Rattle.definition.specs.Answers.{refuses, answered, over, tree_says}
-use Rattle.build.specs.declared.built.Built.{Built}
-use Rattle.build.specs.declared.built.Built.TheVariants as built
-use Rattle.build.specs.contracts.built.Built.{the_type}
-use Rattle.driver.specs.Told.{Tells}
-use Rattle.resolver.proofs.Answering.{tells_none, tells-large, tells-wanted}
+use Rattle.resolver.specs.Trees.{Stands}
+use Rattle.resolver.proofs.Answering.{stands_none, stands-large}
 use Rattle.memory_definition.specs.Cells.{Cell, variable_cells}
 use Rattle.memory_definition.specs.Forms.{text_read}
 use Rattle.memory_definition.specs.Memory.{size, readable_all, text_all, node_words_of, nodes_all}
@@ -24,13 +19,12 @@ use Rattle.memory_definition.specs.Answers.{read_refused, read_answer, read_over
 use Rattle.memory_laws.specs.InWords.{cells_from}
 use Rattle.memory_nodes.specs.All.{Words, Ready}
 use Rattle.memory.specs.Trees.{TreeIn, InWords, Laid, ReadsCells, ReadsMemory}
-use Rattle.memory.proofs.Writing.{there}
 use Rattle.std.specs.Prelude.{Option, Some, None, Ok, Err}
 use Rattle.std.specs.Prelude as std
 use Rattle.definition.specs.declared.answers.Refusal.{Refusal}
 use Rattle.definition.specs.declared.answers.Refusal.TheVariants as refusal
 use Rattle.definition.specs.Answers.{number_of}
-use Rattle.resolver.proofs.Answering.{numbered}
+use Rattle.resolver.proofs.Answering.{not-zero}
 
 -- ---- how many words
 nodes-long : (f : List ℕ) (at : ℕ) (cs : List Cell) (bs : List ℕ) → length (nodes_all f at cs bs) ≡ 6 * length cs
@@ -112,43 +106,28 @@ module _ {f : List ℕ} {v : ℕ} {room : List ℕ} {n : ℕ} (h : TreeIn f v ro
 
 pub ruleset tree_reading = (rules, tree-read)
 
--- ---- `read_built`
-module _ {f : List ℕ} {v : ℕ} {made : Built} {room : List ℕ} (h : Tells (variable_outcome f v) made room) {bs nodes text : List ℕ} where
-  pub none_read : made ≡ built.None → ReadsMemory f v (variable_outcome f v) bs nodes text (Ok None) nodes text
+-- ---- `read_variable`
+module _ {f : List ℕ} {v : ℕ} {room : List ℕ} where
+  pub large-unread : {bs nodes text : List ℕ} {x : Refusal} → Stands (variable_outcome f v) (Err x) room → {r : std.Result (Option ℕ) Refusal} → r ≡ Err x → ReadsMemory f v (variable_outcome f v) bs nodes text r nodes text
   unfolding number_of tree_says tree_read_of nodes_read_of text_read_of
-  none_read q =
-      let e : variable_outcome f v ≡ none = tells_none (variable_outcome f v) (subst (λ (a : Built). Tells (variable_outcome f v) a room) q h) in
-      record { says = rw e; nodes_are = rw e; text_is = rw e }
+  large-unread h e = let k = stands-large (variable_outcome f v) h in record { says = rw (e, k.0, k.1); nodes_are = rw k.0; text_is = rw k.0 }
 
-  pub large-unread : made ≡ built.TooLarge → ReadsMemory f v (variable_outcome f v) bs nodes text (Err refusal.Large) nodes text
-  unfolding number_of tree_says tree_read_of nodes_read_of text_read_of
-  large-unread q =
-      let e : variable_outcome f v ≡ large = tells-large (variable_outcome f v) (subst (λ (a : Built). Tells (variable_outcome f v) a room) q h) in
-      record { says = rw e; nodes_are = rw e; text_is = rw e }
-
-  pub wanted-unread : tag_of the_type made ≡ 3 → ReadsMemory f v (variable_outcome f v) bs nodes text (Ok None) nodes text
-  wanted-unread q = go made q h
-    where
-      go : (b : Built) → tag_of the_type b ≡ 3 → Tells (variable_outcome f v) b room → ReadsMemory f v (variable_outcome f v) bs nodes text (Ok None) nodes text
-      go (built.Ends e) q h = absurd (omega arith)
-      go built.None q h = absurd (omega arith)
-      go built.TooLarge q h = absurd (omega arith)
-      go (built.Wanted d) q h = tells-wanted (variable_outcome f v) h
-
-pub ruleset built_reading = (rules, there, none_read, large-unread, wanted-unread)
+  pub none_read : {a : std.Result (Option ℕ) Refusal} → Stands (variable_outcome f v) a room → {x : Option ℕ} → a ≡ Ok x → x ≡ None → {bs nodes text : List ℕ} → ReadsMemory f v (variable_outcome f v) bs nodes text (Ok None) nodes text
+  unfolding tree_says tree_read_of nodes_read_of text_read_of
+  none_read h q i = let e = stands_none (variable_outcome f v) h (q ∙ ap (λ (x : Option ℕ). Ok x) i) in record { says = rw e; nodes_are = rw e; text_is = rw e }
 
 -- ---- `tree_answer`: the answer, the nodes and the characters, by the refusal
 module _ {refused : ℕ} (f : List ℕ) (v : ℕ) (bs nodes text : List ℕ) where
   module _ (x : Refusal) (e : number_of x ≡ refused) where
     pub answer-unread : {r : std.Result (Option ℕ) Refusal} → r ≡ Err x → tree_says r ≡ answered refused refuses (λ u. tree_read_of f v (variable_outcome f v) bs (length nodes) (length text))
     unfolding tree_says
-    answer-unread q = rw (q, ← e) (rw (ne_eqb (number_of x) 0 (numbered x)))
+    answer-unread q = rw (q, ← e) (rw (not-zero x))
 
     pub nodes-unread : nodes ≡ answered refused (λ n. nodes) (λ u. nodes_read_of f v (variable_outcome f v) bs nodes (length text))
-    nodes-unread = rw (← e) (rw (ne_eqb (number_of x) 0 (numbered x)))
+    nodes-unread = rw (← e) (rw (not-zero x))
 
     pub text-unread : text ≡ answered refused (λ n. text) (λ u. text_read_of f v (variable_outcome f v) bs (length nodes) text)
-    text-unread = rw (← e) (rw (ne_eqb (number_of x) 0 (numbered x)))
+    text-unread = rw (← e) (rw (not-zero x))
 
   module _ (z : refused ≡ 0) {s : List ℕ} (is : s ≡ f) {r : std.Result (Option ℕ) Refusal} {new_nodes new_text : List ℕ} (a : ReadsMemory s v (variable_outcome s v) bs nodes text r new_nodes new_text) where
     pub answer-read : tree_says r ≡ answered refused refuses (λ u. tree_read_of f v (variable_outcome f v) bs (length nodes) (length text))

@@ -7,19 +7,14 @@ use native.Mathlib.Omega.{arith}
 use lib.Dec.{leb}
 use lib.ListN.{length, drop}
 use borrow.Author.Rules.{rules}
-use borrow.Author.Tests.{ne_eqb, le-leb, lt-leb}
-use denote.Enum.Declared.{tag_of}
+use borrow.Author.Tests.{le-leb, lt-leb}
 use Rattle.definition.specs.Tree.{nodes}
-use Rattle.definition.specs.Ask.{none, large}
 use Rattle.definition.specs.Starting.{variable_outcome}
 use Rattle.definition.specs.Answers.{refuses, answered, over}
 use Rattle.laws.specs.Puts.{Puts}
 use Rattle.laws.specs.Whole.{flatten-length}
-use Rattle.build.specs.declared.built.Built.{Built}
-use Rattle.build.specs.declared.built.Built.TheVariants as built
-use Rattle.build.specs.contracts.built.Built.{the_type}
-use Rattle.driver.specs.Told.{Tells}
-use Rattle.resolver.proofs.Answering.{tells-ends, tells_none, tells-large, tells-wanted}
+use Rattle.resolver.specs.Trees.{Stands}
+use Rattle.resolver.proofs.Answering.{stands-tree, stands_none, stands-large}
 use Rattle.memory_definition.specs.Cells.{Cell, variable_cells}
 use Rattle.memory_definition.specs.Forms.{file_characters}
 use Rattle.memory_definition.specs.Memory.{held_all, narrow_all, bytes_all, size_all}
@@ -32,7 +27,7 @@ use Rattle.std.specs.Prelude as std
 use Rattle.definition.specs.declared.answers.Refusal.{Refusal}
 use Rattle.definition.specs.declared.answers.Refusal.TheVariants as refusal
 use Rattle.definition.specs.Answers.{number_of, tree_says}
-use Rattle.resolver.proofs.Answering.{numbered}
+use Rattle.resolver.proofs.Answering.{not-zero}
 
 -- ---- `write_cells`
 module _ (f : List ℕ) (cs : List Cell) {b : Bool} (h : b ≡ held_all f cs) where
@@ -87,45 +82,33 @@ module _ {f : List ℕ} {v : ℕ} {room : List ℕ} {n : ℕ} (h : TreeIn f v ro
 
 pub ruleset tree_writing = (rules, tree-written)
 
--- ---- `write_built`
-pub there : {f : List ℕ} {v e : ℕ} {made : Built} {room : List ℕ} → Tells (variable_outcome f v) made room → made ≡ built.Ends e → TreeIn f v room (e / 6)
-there {f} {v} {e} {made} {room} h q =
-    let y = tells-ends (variable_outcome f v) (subst (λ (a : Built). Tells (variable_outcome f v) a room) q h) in
-    let k : e ≡ 6 * nodes y.tree = omega (arith, y.ends, flatten-length y.tree) in
-    record { tree = y.tree; is = y.is; counted = omega arith; stands = rw (← k) y.stands }
-
-module _ {f : List ℕ} {v : ℕ} {made : Built} {room : List ℕ} (h : Tells (variable_outcome f v) made room) {old : List ℕ} where
-  pub none_written : made ≡ built.None → WritesMemory f v (variable_outcome f v) old (Ok None) old
+-- ---- `write_variable`
+module _ {f : List ℕ} {v : ℕ} {room : List ℕ} where
+  pub large-refused : {old : List ℕ} {x : Refusal} → Stands (variable_outcome f v) (Err x) room → {r : std.Result (Option ℕ) Refusal} → r ≡ Err x → WritesMemory f v (variable_outcome f v) old r old
   unfolding number_of tree_says memory_of memory_in
-  none_written q =
-      let e : variable_outcome f v ≡ none = tells_none (variable_outcome f v) (subst (λ (a : Built). Tells (variable_outcome f v) a room) q h) in
-      record { says = rw e; is = rw e }
+  large-refused h e = let k = stands-large (variable_outcome f v) h in record { says = rw (e, k.0, k.1); is = rw k.0 }
 
-  pub large-refused : made ≡ built.TooLarge → WritesMemory f v (variable_outcome f v) old (Err refusal.Large) old
-  unfolding number_of tree_says memory_of memory_in
-  large-refused q =
-      let e : variable_outcome f v ≡ large = tells-large (variable_outcome f v) (subst (λ (a : Built). Tells (variable_outcome f v) a room) q h) in
-      record { says = rw e; is = rw e }
+  module _ {a : std.Result (Option ℕ) Refusal} (h : Stands (variable_outcome f v) a room) {x : Option ℕ} (q : a ≡ Ok x) where
+    pub there : {e : ℕ} → x ≡ Some e → TreeIn f v room (e / 6)
+    there {e} i =
+        let y = stands-tree (variable_outcome f v) h (q ∙ ap (λ (x : Option ℕ). Ok x) i) in
+        let k : e ≡ 6 * nodes y.tree = omega (arith, y.stands.long, flatten-length y.tree) in
+        record { tree = y.tree; is = y.is; counted = omega arith; stands = rw (← k) y.stands }
 
-  pub wanted-never : tag_of the_type made ≡ 3 → WritesMemory f v (variable_outcome f v) old (Ok None) old
-  wanted-never q = go made q h
-    where
-      go : (b : Built) → tag_of the_type b ≡ 3 → Tells (variable_outcome f v) b room → WritesMemory f v (variable_outcome f v) old (Ok None) old
-      go (built.Ends e) q h = absurd (omega arith)
-      go built.None q h = absurd (omega arith)
-      go built.TooLarge q h = absurd (omega arith)
-      go (built.Wanted d) q h = tells-wanted (variable_outcome f v) h
+    pub none_written : {old : List ℕ} → x ≡ None → WritesMemory f v (variable_outcome f v) old (Ok None) old
+    unfolding tree_says memory_of memory_in
+    none_written i = let e = stands_none (variable_outcome f v) h (q ∙ ap (λ (x : Option ℕ). Ok x) i) in record { says = rw e; is = rw e }
 
-pub ruleset built_writing = (rules, there, none_written, large-refused, wanted-never)
+pub ruleset variable_writing = (rules, large-refused, there, none_written)
 
 -- ---- `memory_answer`: the answer and the bytes, by the refusal
 module _ {refused : ℕ} (f : List ℕ) (v : ℕ) (old : List ℕ) where
   pub answer-refused : (x : Refusal) → number_of x ≡ refused → {r : std.Result (Option ℕ) Refusal} → r ≡ Err x → memory_says r ≡ answered refused refuses (λ u. memory_of f v (variable_outcome f v) (length old))
   unfolding tree_says
-  answer-refused x e q = rw (q, ← e) (rw (ne_eqb (number_of x) 0 (numbered x)))
+  answer-refused x e q = rw (q, ← e) (rw (not-zero x))
 
   pub bytes-refused : (x : Refusal) → number_of x ≡ refused → old ≡ answered refused (λ n. old) (λ u. memory_in f v (variable_outcome f v) old)
-  bytes-refused x e = rw (← e) (rw (ne_eqb (number_of x) 0 (numbered x)))
+  bytes-refused x e = rw (← e) (rw (not-zero x))
 
   module _ (z : refused ≡ 0) {s : List ℕ} (is : s ≡ f) {r : std.Result (Option ℕ) Refusal} {new : List ℕ} (a : WritesMemory s v (variable_outcome s v) old r new) where
     pub answer-passed : memory_says r ≡ answered refused refuses (λ u. memory_of f v (variable_outcome f v) (length old))

@@ -11,6 +11,7 @@ use records::file::File;
 use shapes::classes::shape_classes;
 
 // A variable that has a tree has a place.
+#[tactic(auto, using(crate::proofs::Placing::placing))]
 pub fn lay_variable(file: &File<'_>, v: u32, room: &[u32], nodes: usize, shapes: &mut [u32])
     requires { (v < Layout.count file.now.source Layout.variables) × TreeIn file.now.source v room.now nodes × (12288 ≤ length shapes.old) }
     ensures { Laid file.now.source v room.now shapes.new nodes }

@@ -3,8 +3,6 @@ ghost use Rattle.std.specs.Prelude.{◌≡◌, ◌<◌, length};
 ghost use Rattle.definition.specs.Layout as Layout;
 ghost use Rattle.definition.specs.Starting.{variable_outcome};
 ghost use Rattle.definition.specs.Answers.{cleared, tree_says};
-ghost use Rattle.laws.specs.Accepted.{Accepted};
-ghost use Rattle.driver.specs.Told.{Tells};
 ghost use Rattle.resolver.specs.Trees.{Passed};
 ghost use Rattle.memory_definition.specs.Answers.{read_memory_answer, read_memory_nodes, read_memory_text};
 ghost use Rattle.memory_laws.specs.InWords.{cells_from};
@@ -12,14 +10,14 @@ ghost use Rattle.memory_nodes.specs.All.{Ready};
 ghost use Rattle.memory.specs.Trees.{TreeIn, InWords, ReadsCells, ReadsMemory};
 
 use crate::place::lay_variable;
-use build::built::Built;
 use definition::answers::Refusal;
 use definition::layout::{NODE_WORDS, TREE_WORDS, VARIABLES};
+use driver::told::Owner;
 use lines::clear::clear;
 use memory_nodes::all::{read_all, readable_all, text_count};
 use records::file::File;
 use resolver::refusal::admitted;
-use resolver::trees::variable_built;
+use resolver::trees::build_tree;
 
 // Bytes that the nodes are written as.
 fn read_held(
@@ -46,6 +44,7 @@ fn read_held(
 }
 
 // Refusal 14 before 10 for either slice.
+#[tactic(auto, using(crate::proofs::Reading::cell_reading))]
 fn read_cells(
     file: &File<'_>,
     tree: &[u32],
@@ -82,24 +81,31 @@ fn read_tree(
     read_cells(file, room, &shapes, many, bytes, nodes, characters)
 }
 
-fn read_built(
+// A variable's tree is built at the front of the room.
+fn read_variable(
     file: &File<'_>,
     v: u32,
-    built: Built,
-    room: &[u32],
     bytes: &[u8],
     nodes: &mut [u32],
     characters: &mut [u32],
+    lines: &mut [u32],
+    room: &mut [u32],
 ) -> Result<Option<usize>, Refusal>
-    requires { (v < Layout.count file.now.source Layout.variables) × Tells (variable_outcome file.now.source v) built room.now }
+    requires { Passed file.now.source Layout.variables v (length lines.old) (length room.old) }
     ensures { ReadsMemory file.now.source v (variable_outcome file.now.source v) bytes.now nodes.old characters.old result nodes.new characters.new }
 {
-    match built {
-        Built::Ends(e) => read_tree(file, v, room, e / NODE_WORDS, bytes, nodes, characters),
-        Built::None => Ok(None),
-        Built::TooLarge => Err(Refusal::Large),
-        Built::Wanted(_) => Ok(None),
-    }
+    let Some(end) = build_tree(file, Owner::Variable(v), lines, room)? else {
+        return Ok(None);
+    };
+    read_tree(
+        file,
+        v,
+        &room[..],
+        end / NODE_WORDS,
+        bytes,
+        nodes,
+        characters,
+    )
 }
 
 // How many nodes were read, which stand at the front of nodes, and their strings' characters at the front of characters. The work words are left as they come.
@@ -117,8 +123,7 @@ fn tree_answer(
     ensures text { characters.new ≡ read_memory_text words.now number bytes.now (length nodes.old) characters.old (length lines.old) (length room.old) }
 {
     let file = admitted(words, VARIABLES, number, lines.len(), room.len())?;
-    let built = variable_built(&file, number, lines, room);
-    read_built(&file, number, built, &room[..], bytes, nodes, characters)
+    read_variable(&file, number, bytes, nodes, characters, lines, room)
 }
 
 // How many nodes were read, which stand at the front of nodes, and their strings' characters at the front of characters.

@@ -3,23 +3,21 @@ ghost use Rattle.std.specs.Prelude.{◌≡◌, ◌<◌, length};
 ghost use Rattle.definition.specs.Layout as Layout;
 ghost use Rattle.definition.specs.Starting.{variable_outcome};
 ghost use Rattle.definition.specs.Answers.{cleared};
-ghost use Rattle.laws.specs.Accepted.{Accepted};
-ghost use Rattle.driver.specs.Told.{Tells};
 ghost use Rattle.resolver.specs.Trees.{Passed};
 ghost use Rattle.memory_definition.specs.Answers.{memory_says, write_memory_answer, write_memory_out};
 ghost use Rattle.memory_laws.specs.InWords.{cells_from};
 ghost use Rattle.memory.specs.Trees.{TreeIn, InWords, Writable, WritesCells, WritesMemory};
 
 use crate::place::lay_variable;
-use build::built::Built;
 use definition::answers::Refusal;
 use definition::layout::{NODE_WORDS, TREE_WORDS, VARIABLES};
-use lines::clear::clear;
+use driver::told::Owner;
 use memory_bytes::all::{held_all, narrow_all, size_all, write_all};
 use records::file::File;
 use records::source::Source;
+use resolver::lent::with_lent;
 use resolver::refusal::admitted;
-use resolver::trees::variable_built;
+use resolver::trees::build_tree;
 
 // Nodes that are held, without a character too wide: as many bytes as their forms have.
 fn write_held(
@@ -41,6 +39,7 @@ fn write_held(
 }
 
 // Refusal 14 before 15 before 10.
+#[tactic(auto, using(crate::proofs::Writing::cell_writing))]
 fn write_cells(
     file: &Source<'_>,
     tree: &[u32],
@@ -76,22 +75,21 @@ fn write_tree(
     write_cells(&file.source, room, &shapes, nodes, bytes)
 }
 
-fn write_built(
+// A variable's tree is built at the front of the room.
+fn write_variable(
     file: &File<'_>,
     v: u32,
-    built: Built,
-    room: &[u32],
     bytes: &mut [u8],
+    lines: &mut [u32],
+    room: &mut [u32],
 ) -> Result<Option<usize>, Refusal>
-    requires { (v < Layout.count file.now.source Layout.variables) × Tells (variable_outcome file.now.source v) built room.now }
+    requires { Passed file.now.source Layout.variables v (length lines.old) (length room.old) }
     ensures { WritesMemory file.now.source v (variable_outcome file.now.source v) bytes.old result bytes.new }
 {
-    match built {
-        Built::Ends(e) => write_tree(file, v, room, e / NODE_WORDS, bytes),
-        Built::None => Ok(None),
-        Built::TooLarge => Err(Refusal::Large),
-        Built::Wanted(_) => Ok(None),
-    }
+    let Some(end) = build_tree(file, Owner::Variable(v), lines, room)? else {
+        return Ok(None);
+    };
+    write_tree(file, v, &room[..], end / NODE_WORDS, bytes)
 }
 
 // The start memory of a variable, at the front of bytes. The work words are left as they come.
@@ -106,8 +104,7 @@ fn memory_answer(
     ensures bytes { bytes.new ≡ write_memory_out words.now number bytes.old (length lines.old) (length room.old) }
 {
     let file = admitted(words, VARIABLES, number, lines.len(), room.len())?;
-    let built = variable_built(&file, number, lines, room);
-    write_built(&file, number, built, &room[..], bytes)
+    write_variable(&file, number, bytes, lines, room)
 }
 
 // The start memory of a variable, at the front of bytes.
@@ -123,8 +120,7 @@ pub fn write_memory(
     ensures lines { lines.new ≡ cleared lines.old }
     ensures room { room.new ≡ cleared room.old }
 {
-    let answer = memory_answer(words, number, bytes, lines, room);
-    clear(lines);
-    clear(room);
-    answer
+    with_lent(bytes, lines, room, |bytes, lines, room| {
+        memory_answer(words, number, bytes, lines, room)
+    })
 }

@@ -7,7 +7,6 @@ use native.Mathlib.Omega.{arith}
 use native.Mathlib.Nat.{add-zero, mul-le-mul_left, mul-suc, mul-add}
 use lib.ListN.{length, replicate, length-append}
 use borrow.Author.Rules.{rules}
-use borrow.Author.Tests.{ne_eqb}
 use lib.Dec.{ltb}
 use Rattle.std.specs.List.{list_all, range_with_len}
 use Rattle.definition.specs.Layout.{word, characters}
@@ -112,12 +111,10 @@ module _ (f : List ℕ) (limit first : ℕ) where
   below-every many e = e ∙ below-listed many 0 ∙ ap (λ j. every_below limit (characters_from (file_characters f) j many)) (add-zero first)
 
 -- ---- `character_limit`
-pub narrow-limit : {width : ℕ} → width ≡ 0 → 256 ≡ 256 ^ character_bytes width
-unfolding character_bytes
-narrow-limit e = rw e
+pub limit-fits : (n : ℕ) → n ≤ 2 → 256 ^ n < 2 ^ 32
+limit-fits zero h = omega arith
+limit-fits (suc zero) h = omega arith
+limit-fits (suc (suc zero)) h = omega arith
+limit-fits (suc (suc (suc n))) h = absurd (omega arith)
 
-pub wide-limit : {width : ℕ} → (width ≡ 0 → ⊥) → 65536 ≡ 256 ^ character_bytes width
-unfolding character_bytes
-wide-limit {width} n = rw (ne_eqb width 0 n)
-
-pub ruleset spelling = (rules, text-first, text-room, text-less, text-done, second-room, lengths-put, string-room, fill-room, string-put, below-every, narrow-limit, wide-limit)
+pub ruleset spelling = (rules, text-first, text-room, text-less, text-done, second-room, lengths-put, string-room, fill-room, string-put, below-every, limit-fits)

@@ -15,8 +15,9 @@ use crate::narrow::narrow;
 use definition::layout::NODE_WORDS;
 use memory_forms::form::{form_of, size_of};
 use memory_forms::held::held;
-use memory_forms::words::{node_in, shape_in};
+use memory_forms::words::shape_in;
 use records::source::Source;
+use tree::node;
 
 // The node of a number is held by the shape of its place.
 fn held_at(file: &Source<'_>, tree: &[u32], shapes: &[u32], n: usize) -> bool
@@ -24,7 +25,7 @@ fn held_at(file: &Source<'_>, tree: &[u32], shapes: &[u32], n: usize) -> bool
     ensures { result ≡ Forms.held file.now (cell_in tree.now shapes.now (n * 6)) }
 {
     let at = n * NODE_WORDS;
-    held(file, shape_in(shapes, at), node_in(tree, at))
+    held(file, shape_in(shapes, at), node::get(tree, at))
 }
 
 // Each node is held by the shape of its place: else 14.
@@ -41,7 +42,7 @@ fn narrow_at(file: &Source<'_>, tree: &[u32], shapes: &[u32], n: usize) -> bool
     ensures { result ≡ Forms.narrow file.now (file_characters file.now) (cell_in tree.now shapes.now (n * 6)) }
 {
     let at = n * NODE_WORDS;
-    narrow(file, shape_in(shapes, at), node_in(tree, at))
+    narrow(file, shape_in(shapes, at), node::get(tree, at))
 }
 
 // No character is too wide for its bytes: else 15.
@@ -61,7 +62,7 @@ pub fn size_all(file: &Source<'_>, tree: &[u32], shapes: &[u32], nodes: usize) -
     let mut sum = 0;
     let mut at = 0;
     for _ in 0..nodes {
-        let node = node_in(tree, at);
+        let node = node::get(tree, at);
         sum += size_of(form_of(file, shape_in(shapes, at), node.kind));
         at += NODE_WORDS;
     }
@@ -83,7 +84,7 @@ pub fn write_all(
     let mut end = 0;
     let mut at = 0;
     for _ in 0..nodes {
-        end = put_cell(bytes, end, file, shape_in(shapes, at), node_in(tree, at));
+        end = put_cell(bytes, end, file, shape_in(shapes, at), node::get(tree, at));
         at += NODE_WORDS;
     }
     end

@@ -10,7 +10,7 @@ ghost use Rattle.memory_forms.specs.Cell.{cell_of};
 use definition::layout::CHARACTERS;
 use definition::records::Shape;
 use memory_definition::form::Form;
-use memory_forms::form::form_of;
+use memory_forms::form::{character_size, form_of};
 use records::source::Source;
 use tree::node::Node;
 
@@ -24,10 +24,7 @@ fn every_below(file: &Source<'_>, limit: u32, first: u32, many: u32) -> bool
 fn character_limit(width: u32) -> u32
     ensures { result ≡ 256 ^ character_bytes width }
 {
-    if width == 0 {
-        return 256;
-    }
-    65536
+    256u32.pow(character_size(width) as u32)
 }
 
 #[tactic(auto, using(crate::proofs::Standing::narrowing))]

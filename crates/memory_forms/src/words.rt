@@ -1,11 +1,9 @@
-// A tree's nodes in words, and the shapes of their places.
+// The shapes of the places of a tree's nodes, in words. The nodes are read by crate tree.
 ghost use Rattle.std.specs.Prelude.{◌≡◌, ◌+◌, ◌≤◌, length};
-ghost use Rattle.tree.specs.Node.{as_node};
-ghost use Rattle.memory_laws.specs.InWords.{shape_in, node_in};
+ghost use Rattle.memory_laws.specs.InWords.{shape_in};
 
 use definition::records::Shape;
 use records::view::shape_of;
-use tree::node::Node;
 
 pub fn shape_in(shapes: &[u32], at: usize) -> Shape
     requires { at + 6 ≤ length shapes.now }
@@ -18,18 +16,4 @@ pub fn shape_in(shapes: &[u32], at: usize) -> Shape
         shapes[at + 3],
         shapes[at + 4],
     )
-}
-
-pub fn node_in(tree: &[u32], at: usize) -> Node
-    requires { at + 6 ≤ length tree.now }
-    ensures { result ≡ as_node (node_in tree.now at) }
-{
-    Node {
-        name: tree[at],
-        kind: tree[at + 1],
-        sign: tree[at + 2],
-        low: tree[at + 3],
-        high: tree[at + 4],
-        width: tree[at + 5],
-    }
 }

@@ -26,13 +26,14 @@ fn has_block(file: &Source<'_>, t: u32) -> bool
 }
 
 // The type with a block record that alias bases lead to from t, as a link; none in a circle without one.
+#[tactic(auto, using(crate::proofs::block::Laws::walking))]
 pub fn recorded_block(file: &Source<'_>, t: u32) -> u32
     requires { (t < 2 ^ 32 - 1) }
     ensures { result ≡ recorded_block file.now t }
 {
     let mut at = t;
-    let mut left = file.count(TYPES);
-    while left > 0 {
+    let many = file.count(TYPES);
+    for _ in 0..many {
         if has_block(file, at) {
             return at + 1;
         }
@@ -41,7 +42,6 @@ pub fn recorded_block(file: &Source<'_>, t: u32) -> u32
             return 0;
         }
         at = base - 1;
-        left -= 1;
     }
     0
 }

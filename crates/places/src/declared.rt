@@ -63,13 +63,14 @@ fn element_declaration(file: &File<'_>, name: u32, t: u32) -> u32
 }
 
 // The initializer that the declaration of a field states, as a link.
+#[tactic(auto, using(crate::proofs::declared::Laws::walking))]
 pub fn field_declaration(file: &File<'_>, name: u32, t: u32) -> u32
     requires { IsType file.now.source t }
     ensures { result ≡ field_declaration file.now.source name t }
 {
     let mut at = t;
-    let mut left = file.declared + 1;
-    while left > 0 {
+    let most = file.declared + 1;
+    for _ in 0..most {
         let kind = file.source.word(TYPES, at, 4);
         if kind == 5 {
             return element_declaration(file, name, at);
@@ -79,7 +80,6 @@ pub fn field_declaration(file: &File<'_>, name: u32, t: u32) -> u32
             return 0;
         }
         at = target - 1;
-        left -= 1;
     }
     0
 }

@@ -30,18 +30,15 @@ pub fn linked_word(file: &Source<'_>, section: usize, link: u32, place: usize) -
 }
 
 // The first record of a run that has a name, as a link.
+#[tactic(auto, using(crate::proofs::named::Laws::walking))]
 pub fn first_named(file: &Source<'_>, section: usize, name: u32, first: u32, many: u32) -> u32
     requires { (section < 14) × (first + many < 2 ^ 32) }
     ensures { result ≡ first_named file.now section name first many }
 {
-    let mut at = first;
-    let mut left = many;
-    while left > 0 {
-        if file.word(section, at, 0) == name {
-            return at + 1;
+    for n in first..first + many {
+        if file.word(section, n, 0) == name {
+            return n + 1;
         }
-        at += 1;
-        left -= 1;
     }
     0
 }

@@ -91,13 +91,14 @@ pub fn element_place(file: &File<'_>, classes: &[u32], place: Place, s: u32) -> 
 }
 
 // What an array of arrays is filled with: an element of its innermost arrays.
+#[tactic(auto, using(crate::proofs::place::Laws::walking))]
 pub fn leaf_place(file: &File<'_>, classes: &[u32], place: Place) -> Place
     requires { Classes file.now.source classes.now × PlaceIn file.now.source place }
     ensures { result ≡ leaf_place file.now.source place }
 {
     let mut leaf = place;
-    let mut left = file.source.count(SHAPES);
-    while left > 0 {
+    let many = file.source.count(SHAPES);
+    for _ in 0..many {
         let shape = leaf.shape;
         let Shape::Array {
             element,
@@ -108,7 +109,6 @@ pub fn leaf_place(file: &File<'_>, classes: &[u32], place: Place) -> Place
             return leaf;
         };
         leaf = element_place(file, classes, leaf, element);
-        left -= 1;
     }
     leaf
 }

@@ -1,9 +1,16 @@
 -- A number raised record by record, along the uses of the definition. Assumes nothing.
 use mathlib.Core.Path.{◌≡◌, refl, ap, ◌∙◌}
-use mathlib.Core.List.{List, ◌++◌, append_assoc, append-nil}
-use Prim.Native.Nat.{ℕ, zero, suc, max, ◌+◌, ◌-◌, ◌≤◌}
+use mathlib.Core.List.{List, [], ◌∷◌, ◌++◌, append_assoc, append-nil}
+use denote.Param.Members.{Mut}
+use Rattle.std.specs.Fn.{Called}
+use Rattle.std.specs.List.{range_with_len, FoldsTo}
+use Rattle.std.specs.Iterator.{Drains}
+use Rattle.std.specs.declared.ops.Range.{Range}
+use Rattle.std.proofs.iter.Yields.{nat_range_steps}
+use Rattle.std.proofs.lemmas.Fn.{fold_over}
+use Rattle.std.proofs.lemmas.Iterator.{YieldsList-from_range}
+use Prim.Native.Nat.{ℕ, zero, suc, max, ◌+◌, ◌-◌}
 use native.Mathlib.Omega.{arith}
-use native.Mathlib.Nat.{add-zero}
 use native.Mathlib.Numerals.{add-one}
 use lib.ListN.{get_or}
 use borrow.Author.Rules.{rules}
@@ -15,9 +22,7 @@ use Rattle.definition.specs.Layout.{word, types, block_fields, elements, variabl
 use Rattle.definition.specs.Records.{alias_base, element_type, referenced_type, declaration_at, named_type}
 use Rattle.definition.specs.Uses.{linked, named_use, initializer_uses, element_uses, variable_uses, block_field_uses, declaration_uses, block_uses, uses, raise, rank_at}
 use Rattle.laws.specs.Ranks.{raise-append}
-use Rattle.ranks.specs.declared.above.Run.{Run}
-use Rattle.ranks.specs.declared.above.Run.TheVariants.{Elements, Variables, BlockFields}
-use Rattle.ranks.specs.Above.{rank_in, used_by, used_in, start_uses, reference_uses, links_of}
+use Rattle.ranks.specs.Above.{rank_in, start_uses, reference_uses, links_of}
 
 -- ---- a rank
 pub in_words : (words : List ℕ) (t : ℕ) {r : ℕ} → r ≡ get_or words t 0 → r ≡ rank_in words t
@@ -67,63 +72,74 @@ module _ (rank : ℕ → ℕ) (high : ℕ) where
       unfolding reference_uses referenced_type
       reference-over n h = rw (← q, ne_eqb name d n) h
 
-    -- ---- a record of a run
-    module _ (run : Run) (k : ℕ) where
-      pub by-element : run ≡ Elements → {i s : ℕ} → i ≡ word f elements k 1 → s ≡ raise rank high (initializer_uses f i) → s ≡ raise rank high (used_by f run k)
-      unfolding used_by
-      by-element e q h = rw (e, ← q) h
+pub ruleset raising = (rules, in_words, link-none, link-over, name-none, name-over, initializer-over, start_none, start-over, reference-none, reference-over)
 
-      pub by-variable : run ≡ Variables → {l i m s : ℕ} → l ≡ word f variables k 2 → i ≡ word f variables k 3 → m ≡ raise rank high (linked l) → s ≡ raise rank m (initializer_uses f i)
-          → s ≡ raise rank high (used_by f run k)
-      unfolding used_by
-      by-variable e q p h g = rw (e, raise-append, ← q, ← p, ← h) g
+-- ---- a run: what its records leads, one after another
+used_in : (ℕ → List ℕ) → ℕ → ℕ → List ℕ
+used_in leads k zero = []
+used_in leads k (suc n) = leads k ++ used_in leads (suc k) n
 
-      pub by_field : run ≡ BlockFields → {l s : ℕ} → l ≡ word f block_fields k 1 → s ≡ raise rank high (linked l) → s ≡ raise rank high (used_by f run k)
-      unfolding used_by
-      by_field e q h = rw (e, ← q) h
+used_at : (ℕ → List ℕ) → ℕ → List ℕ → List ℕ
+used_at leads first [] = []
+used_at leads first (j ∷ js) = leads (first + j) ++ used_at leads first js
 
-pub ruleset raising = (rules, in_words, link-none, link-over, name-none, name-over, initializer-over, start_none, start-over, reference-none, reference-over, by-element, by-variable, by_field)
+module _ (leads : ℕ → List ℕ) (first : ℕ) where
+  at-range : (a n : ℕ) → used_at leads first (range_with_len a n) ≡ used_in leads (first + a) n
+  unfolding used_in used_at
+  at-range a zero = refl
+  at-range a (suc n) =
+      let e : first + (a + 1) ≡ suc (first + a) = omega arith in
+      ap (λ (l : List ℕ). leads (first + a) ++ l) (at-range (a + 1) n ∙ ap (λ (k : ℕ). used_in leads k n) e)
 
--- ---- a run
-used-more : (f : List ℕ) (run : Run) (k n : ℕ) → used_in f run k (suc n) ≡ used_in f run k n ++ used_by f run (k + n)
-unfolding used_in
-used-more f run k zero = rw add-zero (append-nil (used_by f run k))
-used-more f run k (suc n) =
-    let e : suc k + n ≡ k + suc n = omega arith in
-    ap (λ (l : List ℕ). used_by f run k ++ l) (used-more f run (suc k) n) ∙ rw (e, append_assoc)
+  at-more : (js : List ℕ) (j : ℕ) → used_at leads first (js ++ (j ∷ [])) ≡ used_at leads first js ++ leads (first + j)
+  unfolding used_at
+  at-more [] j = append-nil (leads (first + j))
+  at-more (i ∷ js) j = ap (λ (l : List ℕ). leads (first + i) ++ l) (at-more js j) ∙ rw append_assoc
 
--- so much of a run is raised above
-pub record Raised (rank : ℕ → ℕ) (high : ℕ) (f : List ℕ) (run : Run) (first n most : ℕ) : Type 0 where
-  pub is : most ≡ raise rank high (used_in f run first n)
+  module _ (rank : ℕ → ℕ) (high n : ℕ) {F : Type 0} {g : Mut F (ℕ × (ℕ × Unit {0})) ℕ} {s : Range ℕ} (f : F) where
+    raised-in-range : (r : ℕ)
+        → (xs : List ℕ) × (h : F) × Drains nat_range_steps s xs × FoldsTo {P = F × ℕ} (λ p x q. Called g p.0 (p.1, (x, tt)) q.1 q.0) (f, high) xs (h, r)
+        → s ≡ record { start = 0; end = n } → ((a x b : ℕ) (q : F) → Called g f (a, (x, tt)) b q → (b ≡ raise rank a (leads (first + x))) × (q ≡ f))
+        → r ≡ raise rank high (used_in leads first n)
+    unfolding used_at raise
+    raised-in-range r ran e step =
+        let z : first + 0 ≡ first = omega arith in
+        fold_over nat_range_steps (λ x. x) g (λ js a. a ≡ raise rank high (used_at leads first js)) f
+        (λ js a x b q i c. let w = step a x b q c in (rw (at-more js x, raise-append, ← i) w.0, w.1))
+        s (range_with_len 0 n) high r (YieldsList-from_range 0 n n e (omega arith)).runs refl ran
+        ∙ ap (raise rank high) (at-range 0 n) ∙ rw z
 
-pub none-raised : (rank : ℕ → ℕ) (high : ℕ) (f : List ℕ) (run : Run) (first : ℕ) → Raised rank high f run first 0 high
-unfolding used_in raise
-none-raised rank high f run first = record { is = refl }
-
-module _ {rank : ℕ → ℕ} {high : ℕ} {f : List ℕ} {run : Run} {first n most : ℕ} (i : Raised rank high f run first n most) where
-  pub one-raised : {r : ℕ} → r ≡ raise rank most (used_by f run (first + n)) → Raised rank high f run first (n + 1) r
-  one-raised h = record { is = rw (add-one, used-more f run first n, raise-append, ← i.is) h }
-
-  pub all-raised : (m : ℕ) → n ≤ m → m ≤ n → most ≡ raise rank high (used_in f run first m)
-  all-raised m h l = let e : m ≡ n = omega arith in rw e i.is
-
-pub ruleset runs = (rules, none-raised, one-raised, all-raised)
-
--- ---- the runs of the definition
-elements-used : (f : List ℕ) (k n : ℕ) → element_uses f k n ≡ used_in f Elements k n
-unfolding element_uses used_in used_by
+-- the runs of the definition
+elements-used : (f : List ℕ) (k n : ℕ) → element_uses f k n ≡ used_in (λ k. initializer_uses f (word f elements k 1)) k n
+unfolding element_uses used_in
 elements-used f k zero = refl
 elements-used f k (suc n) = rw (elements-used f (suc k) n)
 
-variables-used : (f : List ℕ) (k n : ℕ) → variable_uses f k n ≡ used_in f Variables k n
-unfolding variable_uses used_in used_by
+variables-used : (f : List ℕ) (k n : ℕ) → variable_uses f k n ≡ used_in (λ k. linked (word f variables k 2) ++ initializer_uses f (word f variables k 3)) k n
+unfolding variable_uses used_in
 variables-used f k zero = refl
 variables-used f k (suc n) = rw (variables-used f (suc k) n, append_assoc)
 
-fields-used : (f : List ℕ) (k n : ℕ) → block_field_uses f k n ≡ used_in f BlockFields k n
-unfolding block_field_uses used_in used_by
+fields-used : (f : List ℕ) (k n : ℕ) → block_field_uses f k n ≡ used_in (λ k. linked (word f block_fields k 1)) k n
+unfolding block_field_uses used_in
 fields-used f k zero = refl
 fields-used f k (suc n) = rw (fields-used f (suc k) n)
+
+module _ (f : List ℕ) (rank : ℕ → ℕ) (first n high r : ℕ) {F : Type 0} {g : Mut F (ℕ × (ℕ × Unit {0})) ℕ} {s : Range ℕ} (h : F)
+    (ran : (xs : List ℕ) × (i : F) × Drains nat_range_steps s xs × FoldsTo {P = F × ℕ} (λ p x q. Called g p.0 (p.1, (x, tt)) q.1 q.0) (h, high) xs (i, r))
+    (e : s ≡ record { start = 0; end = n }) where
+  pub elements_over : ((a x b : ℕ) (q : F) → Called g h (a, (x, tt)) b q → (b ≡ raise rank a (initializer_uses f (word f elements (first + x) 1))) × (q ≡ h))
+      → r ≡ raise rank high (element_uses f first n)
+  elements_over step = rw (elements-used f first n) (raised-in-range _ first rank high n h r ran e step)
+
+  pub variables_over : ((a x b : ℕ) (q : F) → Called g h (a, (x, tt)) b q
+      → (b ≡ raise rank (raise rank a (linked (word f variables (first + x) 2))) (initializer_uses f (word f variables (first + x) 3))) × (q ≡ h))
+      → r ≡ raise rank high (variable_uses f first n)
+  variables_over step = rw (variables-used f first n) (raised-in-range _ first rank high n h r ran e (λ a x b q c. let w = step a x b q c in (rw raise-append w.0, w.1)))
+
+  pub fields_over : ((a x b : ℕ) (q : F) → Called g h (a, (x, tt)) b q → (b ≡ raise rank a (linked (word f block_fields (first + x) 1))) × (q ≡ h))
+      → r ≡ raise rank high (block_field_uses f first n)
+  fields_over step = rw (fields-used f first n) (raised-in-range _ first rank high n h r ran e step)
 
 -- ---- a type
 module _ (rank : ℕ → ℕ) (high : ℕ) (f : List ℕ) (t : ℕ) where
@@ -153,9 +169,9 @@ module _ (rank : ℕ → ℕ) (high : ℕ) (f : List ℕ) (t : ℕ) where
       unfolding declaration_uses
       of_array e h = rw (← q, e) h
 
-      pub of-structure : {first many : ℕ} → d ≡ decl.Structure first many → s ≡ raise rank high (used_in f Elements first many) → s ≡ raise rank high (declaration_uses f t (declaration_at f t))
+      pub of-structure : {first many : ℕ} → d ≡ decl.Structure first many → s ≡ raise rank high (element_uses f first many) → s ≡ raise rank high (declaration_uses f t (declaration_at f t))
       unfolding declaration_uses
-      of-structure {first} {many} e h = rw (← q, e, elements-used f first many) h
+      of-structure e h = rw (← q, e) h
 
       pub of-reference : {name : ℕ} → d ≡ decl.Reference name → s ≡ raise rank high (reference_uses f t name) → s ≡ raise rank high (declaration_uses f t (declaration_at f t))
       unfolding declaration_uses reference_uses
@@ -169,13 +185,13 @@ module _ (rank : ℕ → ℕ) (high : ℕ) (f : List ℕ) (t : ℕ) where
       unfolding declaration_uses
       of-late e h = rw (← q, e) h
 
-      pub of-block : {first many : ℕ} → d ≡ decl.FunctionBlock first many → s ≡ raise rank high (used_in f Variables first many) → s ≡ raise rank high (declaration_uses f t (declaration_at f t))
+      pub of-block : {first many : ℕ} → d ≡ decl.FunctionBlock first many → s ≡ raise rank high (variable_uses f first many) → s ≡ raise rank high (declaration_uses f t (declaration_at f t))
       unfolding declaration_uses
-      of-block {first} {many} e h = rw (← q, e, variables-used f first many) h
+      of-block e h = rw (← q, e) h
 
-  pub block-over : {a n s : ℕ} → a ≡ word f types t 9 → n ≡ word f types t 10 → s ≡ raise rank high (used_in f BlockFields a n) → s ≡ raise rank high (block_uses f t)
+  pub block-over : {a n s : ℕ} → a ≡ word f types t 9 → n ≡ word f types t 10 → s ≡ raise rank high (block_field_uses f a n) → s ≡ raise rank high (block_uses f t)
   unfolding block_uses
-  block-over {a} {n} p q h = rw (← p, ← q, fields-used f a n) h
+  block-over p q h = rw (← p, ← q) h
 
 module _ (rank : ℕ → ℕ) (f : List ℕ) (t : ℕ) where
   pub links-over : {b e m s : ℕ} → b ≡ word f types t 1 → e ≡ word f types t 2 → m ≡ raise rank 0 (linked b) → s ≡ raise rank m (linked e) → s ≡ raise rank 0 (links_of f t)

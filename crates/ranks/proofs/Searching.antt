@@ -8,7 +8,7 @@ use lib.ListN.{length, get_or, set, replicate}
 use lib.Seq.{get_or-set_same, get_or-set_other}
 use borrow.Author.Count.{below_more}
 use borrow.Author.Rules.{rules}
-use Rattle.std.specs.Prelude.{Ok, Err}
+use Rattle.std.specs.Prelude.{Result, Ok, Err}
 use Rattle.definition.specs.Answers.{cleared}
 use Rattle.definition.specs.Uses.{uses, raise, rank_at, ranked, circle, ranks_of}
 use Rattle.laws.specs.Accepted.{Accepted, few-types}
@@ -38,16 +38,16 @@ pub ruleset forgetting = (rules, unknowns-start, unknowns-on, unknowns-end)
 
 -- ---- what comes next
 module _ {f : List ℕ} {t : ℕ} {w : List ℕ} (b : Reached f t in_progress w) {r : ℕ} (e : r ≡ raise (rank_at w) 0 (uses f t)) where
-  pub tells-rank : r < length w → Tells f t w (next.Rank r)
+  pub tells-rank : r < length w → Tells f t w (Ok (next.Rank r))
   tells-rank h = record { tells = (omega (arith, b.words.long), e) }
 
   pub first_fits : 2048 < r → {u : ℕ} → u ≡ r - 2048 - 1 → u < 2 ^ 32
   first_fits h q = let l = (unknown-first b e h).inside in let k = b.words.few in omega arith
 
-  pub tells_first : 2048 < r → {u : ℕ} → u ≡ r - 2048 - 1 → Tells f t w (next.First u)
+  pub tells_first : 2048 < r → {u : ℕ} → u ≡ r - 2048 - 1 → Tells f t w (Ok (next.First u))
   tells_first h {u} q = let j : u ≡ r - 2049 = omega arith in record { tells = rw j (unknown-first b e h) }
 
-  pub tells-circle : length w ≤ r → r ≤ 2048 → Tells f t w next.Circle
+  pub tells-circle : length w ≤ r → r ≤ 2048 → {c : Circle} → Tells f t w (Err c)
   tells-circle h k = record { tells = none-so-high b e (omega (arith, b.words.long)) k }
 
 pub rank-fits : {f : List ℕ} {t v : ℕ} {w : List ℕ} → Reached f t v w → {r : ℕ} → r < length w → r < 2 ^ 32
@@ -70,15 +70,15 @@ module _ {f : List ℕ} {A : Type 0} where
   ends_as (Ok u) x h = record { ends = h x.ends }
   ends_as (Err c) x h = record { ends = x.ends }
 
-pub tells-of : {f : List ℕ} {t : ℕ} {w : List ℕ} {r : Next} → Tells f t w r → {q : Next} → r ≡ q → TellsOf f t w q
-tells-of x e = rw e at x.tells
+pub tells-of : {f : List ℕ} {t : ℕ} {w : List ℕ} {r : Result Next Circle} → Tells f t w r → {q : Next} → r ≡ Ok q → {p : Next} → q ≡ p → TellsOf f t w (Ok p)
+tells-of x e i = rw i at (rw e at x.tells)
 
 -- ---- one type
 pub type-room : {f : List ℕ} {t v : ℕ} {w : List ℕ} → Reached f t v w → t < length w
 type-room b = omega (arith, b.inside, b.words.long)
 
-pub type-first : {f : List ℕ} {t u : ℕ} {w : List ℕ} {r : Next} → Tells f t w r → r ≡ next.First u → Reached f u (unknown u) w
-type-first x e = tells-of x e
+pub type-first : {f : List ℕ} {t u : ℕ} {w : List ℕ} {r : Result Next Circle} → Tells f t w r → {q : Next} → r ≡ Ok q → q ≡ next.First u → Reached f u (unknown u) w
+type-first x e i = tells-of x e i
 
 module _ {f : List ℕ} {t : ℕ} {start w : List ℕ} (g : Goes f t start w) where
   pub type-reached : Reached f t 1024 w
@@ -97,11 +97,11 @@ module _ {f : List ℕ} {t : ℕ} {old : List ℕ} (a : Reached f t (unknown t) 
   pub type-falls : {m : ℕ} → total old ≡ m → total w < m
   type-falls e = omega (arith, goes-less a g)
 
-  pub type-ranked : {r : Next} → Tells f t w r → {k : ℕ} → r ≡ next.Rank k → Ends f (Done f t old (set w t k)) (Ok tt)
-  type-ranked x e = let y = tells-of x e in record { ends = goes-done a g y.0 y.1 }
+  pub type-ranked : {r : Result Next Circle} → Tells f t w r → {q : Next} → r ≡ Ok q → {k : ℕ} → q ≡ next.Rank k → Ends f (Done f t old (set w t k)) (Ok tt)
+  type-ranked x e i = let y = tells-of x e i in record { ends = goes-done a g y.0 y.1 }
 
-pub type-circle : {f : List ℕ} {t : ℕ} {w : List ℕ} {r : Next} → Tells f t w r → r ≡ next.Circle → {A : Type 0} {c : Circle} → Ends f A (Err c)
-type-circle x e = record { ends = tells-of x e }
+pub type-circle : {f : List ℕ} {t : ℕ} {w : List ℕ} {r : Result Next Circle} → Tells f t w r → {c : Circle} → r ≡ Err c → {A : Type 0} → Ends f A (Err c)
+type-circle x e = record { ends = rw e at x.tells }
 
 pub ruleset typing = (rules, goes-start, type-room, type-first, type-reached, type-long, type-on, type-less, type-falls, type-ranked, type-circle, ends-passed)
 

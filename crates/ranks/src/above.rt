@@ -2,22 +2,14 @@
 #![tactic(auto, using(crate::proofs::Raising::raising))]
 
 ghost use Rattle.std.specs.Prelude.{◌≡◌, ◌+◌};
-ghost use Rattle.definition.specs.Uses.{linked, named_use, initializer_uses, declaration_uses, block_uses, uses, raise};
+ghost use Rattle.definition.specs.Uses.{linked, named_use, initializer_uses, element_uses, variable_uses, block_field_uses, declaration_uses, block_uses, uses, raise};
 ghost use Rattle.definition.specs.Records.{declaration_at};
-ghost use Rattle.ranks.specs.Above.{rank_in, used_by, used_in, start_uses, reference_uses, links_of};
+ghost use Rattle.ranks.specs.Above.{rank_in, start_uses, reference_uses, links_of};
 
 use definition::layout::{BLOCK_FIELDS, ELEMENTS, INITIALIZERS, INLINE, TYPES, VARIABLES};
 use definition::records::Declaration;
 use records::source::Source;
 use records::words::word_at;
-
-// What a type's record leads to.
-#[derive(Clone, Copy)]
-pub enum Run {
-    Elements,
-    Variables,
-    BlockFields,
-}
 
 // Words hold each type's rank at its number.
 pub fn rank_in(words: &[u32], t: u32) -> u32
@@ -61,51 +53,33 @@ fn above_initializer(file: &Source<'_>, words: &[u32], i: u32, high: usize) -> u
     above_link(words, element, most)
 }
 
-// Record `first + j` of a run.
-fn above_record(
-    file: &Source<'_>,
-    words: &[u32],
-    run: Run,
-    first: u32,
-    j: u32,
-    high: usize,
-) -> usize
-    ensures { result ≡ raise (rank_in words.now) high (used_by file.now run (first + j)) }
+// The elements of a structure, one after another.
+fn above_elements(file: &Source<'_>, words: &[u32], first: u32, many: u32, high: usize) -> usize
+    ensures { result ≡ raise (rank_in words.now) high (element_uses file.now first many) }
 {
-    match run {
-        Run::Elements => {
-            let i = file.run_word(ELEMENTS, first, j, 1);
-            above_initializer(file, words, i, high)
-        }
-        Run::Variables => {
-            let link = file.run_word(VARIABLES, first, j, 2);
-            let i = file.run_word(VARIABLES, first, j, 3);
-            let most = above_link(words, link, high);
-            above_initializer(file, words, i, most)
-        }
-        Run::BlockFields => {
-            let link = file.run_word(BLOCK_FIELDS, first, j, 1);
-            above_link(words, link, high)
-        }
-    }
+    (0..many).fold(high, |most, j| {
+        let i = file.run_word(ELEMENTS, first, j, 1);
+        above_initializer(file, words, i, most)
+    })
 }
 
-#[tactic(auto, using(crate::proofs::Raising::runs))]
-fn above_run(
-    file: &Source<'_>,
-    words: &[u32],
-    run: Run,
-    first: u32,
-    many: u32,
-    high: usize,
-) -> usize
-    ensures { result ≡ raise (rank_in words.now) high (used_in file.now run first many) }
+// The variables of a function block.
+fn above_variables(file: &Source<'_>, words: &[u32], first: u32, many: u32, high: usize) -> usize
+    ensures { result ≡ raise (rank_in words.now) high (variable_uses file.now first many) }
 {
-    let mut most = high;
-    for j in 0..many {
-        most = above_record(file, words, run, first, j, most);
-    }
-    most
+    (0..many).fold(high, |most, j| {
+        let link = file.run_word(VARIABLES, first, j, 2);
+        let i = file.run_word(VARIABLES, first, j, 3);
+        above_initializer(file, words, i, above_link(words, link, most))
+    })
+}
+
+fn above_fields(file: &Source<'_>, words: &[u32], first: u32, many: u32, high: usize) -> usize
+    ensures { result ≡ raise (rank_in words.now) high (block_field_uses file.now first many) }
+{
+    (0..many).fold(high, |most, j| {
+        above_link(words, file.run_word(BLOCK_FIELDS, first, j, 1), most)
+    })
 }
 
 // The initializer of an alias, where it has one.
@@ -140,15 +114,13 @@ fn above_declaration(file: &Source<'_>, words: &[u32], t: u32, high: usize) -> u
         Declaration::String { .. } => high,
         Declaration::Array { named, .. } => above_name(words, named, high),
         Declaration::Structure { first, count } => {
-            let run = Run::Elements;
-            above_run(file, words, run, first, count, high)
+            above_elements(file, words, first, count, high)
         }
         Declaration::Reference { named } => { above_reference(file, words, t, named, high) }
         Declaration::Enumeration { named } => above_link(words, named, high),
         Declaration::LateBound { named } => above_link(words, named, high),
         Declaration::FunctionBlock { first, count } => {
-            let run = Run::Variables;
-            above_run(file, words, run, first, count, high)
+            above_variables(file, words, first, count, high)
         }
         Declaration::Unknown => high,
     }
@@ -161,8 +133,7 @@ fn above_block(file: &Source<'_>, words: &[u32], t: u32, high: usize) -> usize
 {
     let first = file.word(TYPES, t, 9);
     let many = file.word(TYPES, t, 10);
-    let run = Run::BlockFields;
-    above_run(file, words, run, first, many, high)
+    above_fields(file, words, first, many, high)
 }
 
 // What the record itself names.

@@ -26,7 +26,6 @@ pub struct Circle;
 pub enum Next {
     Rank(u32),
     First(u32),
-    Circle,
 }
 
 // No type is known.
@@ -35,26 +34,26 @@ fn forget(ranks: &mut [u32])
     requires { length ranks.old ≤ in_progress }
     ensures { Unknowns (length ranks.old) ranks.new }
 {
-    for i in 0..ranks.len() {
-        ranks[i] = UNKNOWN + i as u32;
+    for (i, word) in ranks.iter_mut().enumerate() {
+        *word = UNKNOWN + i as u32;
     }
 }
 
 // The highest word of the used types decides: a type that is unknown has to be ranked first.
 // Uses run in a circle where one is in progress, or where the rank would be as high as there are types.
 #[tactic(auto, using(crate::proofs::Searching::telling))]
-fn next_of(file: &Source<'_>, ranks: &[u32], t: u32) -> Next
+fn next_of(file: &Source<'_>, ranks: &[u32], t: u32) -> Result<Next, Circle>
     requires { Reached file.now t in_progress ranks.now }
     ensures { Tells file.now t ranks.now result }
 {
     let high = raised(file, ranks, t);
     if high < ranks.len() {
-        return Next::Rank(high as u32);
+        return Ok(Next::Rank(high as u32));
     }
     if high > UNKNOWN as usize {
-        return Next::First((high - UNKNOWN as usize - 1) as u32);
+        return Ok(Next::First((high - UNKNOWN as usize - 1) as u32));
     }
-    Next::Circle
+    Err(Circle)
 }
 
 // An unknown type is ranked, behind all that it uses.
@@ -64,13 +63,13 @@ fn rank_type(file: &Source<'_>, ranks: &mut [u32], t: u32) -> Result<(), Circle>
 {
     ranks[t as usize] = IN_PROGRESS;
     loop {
-        match next_of(file, &ranks[..], t) {
+        let next = next_of(file, &ranks[..], t)?;
+        match next {
             Next::Rank(r) => {
                 ranks[t as usize] = r;
                 return Ok(());
             }
             Next::First(u) => rank_type(file, ranks, u)?,
-            Next::Circle => return Err(Circle),
         }
     }
 }

@@ -8,15 +8,6 @@ abbrev sucs : ℕ → ℕ → ℕ
 sucs zero k = k
 sucs (suc n) k = suc (sucs n k)
 
--- none of the numbers below n, as a match leaves it behind its arms 0, 1, .. in order
-abbrev Apart : ℕ → ℕ → Type 0
-Apart zero k = Unit {0}
-Apart (suc n) k = Apart n k × (k ≡ n → ⊥)
-
-beyond : (n k : ℕ) → Apart n k → n ≤ k
-beyond zero k a = omega arith
-beyond (suc n) k a = let l = beyond n k a.0 in omega (arith, a.1)
-
 -- one number less to tell apart: where there are more than six, `omega` leaves them
 pub more : {n k : ℕ} → n ≤ k → (k ≡ n → ⊥) → suc n ≤ k
 more l p = omega (arith, p)
@@ -44,6 +35,3 @@ module _ {A : Type 0} where
   past g zero k l s = s k
   past g (suc n) zero l s = absurd (omega arith)
   past g (suc n) (suc k) l s = past (λ j. g (suc j)) n k (omega arith) s
-
-  pub behind : (g : ℕ → A) (n k : ℕ) {r : A} → Apart n k → ((j : ℕ) → r ≡ g (sucs n j)) → r ≡ g k
-  behind g n k a s = past g n k (beyond n k a) s

@@ -8,6 +8,7 @@ use native.Mathlib.Nat.{mul-le-mul}
 use native.Mathlib.Numerals.{add-one}
 use lib.ListN.{get_or, set, replicate, length-set}
 use lib.Seq.{get_or-set_same, get_or-set_other}
+use borrow.Author.Rules.{rules}
 use Rattle.definition.specs.Layout.{words_of_records, record_words, behind, count_at, count, word}
 use Rattle.records.specs.Starts.{StartsTo, StartsOf}
 
@@ -83,3 +84,5 @@ module _ {f starts : List ℕ} (i : StartsOf f starts) (s : ℕ) (l : s < 14) wh
 
 pub ends_at : {f starts : List ℕ} → StartsOf f starts → count_at f 14 ≡ get_or starts 14 0
 ends_at i = sym (i.start 14 (omega arith))
+
+pub ruleset starting = (rules, next_start, all-starts, start-most, count-is)

@@ -2,6 +2,7 @@
 ghost use Rattle.std.specs.Prelude.{◌≡◌, ◌+◌, ◌^◌, ◌<◌, ◌≤◌};
 ghost use Rattle.definition.specs.Layout as Layout;
 ghost use Rattle.definition.specs.Layout.{count_at};
+ghost use Rattle.records.specs.Words.{words_from};
 
 use crate::words::{find_sections, word_at};
 use definition::layout::record_words;
@@ -59,6 +60,7 @@ impl<'a> Source<'a> {
     }
 
     // How many records a section has.
+    #[tactic(auto, using(crate::proofs::Starting::starting))]
     pub fn count(&self, section: usize) -> u32
         requires { section < 14 }
         ensures { result ≡ Layout.count self.now section }
@@ -82,5 +84,13 @@ impl<'a> Source<'a> {
         ensures { result ≡ Layout.word self.now section number place }
     {
         self.run_word(section, number, 0, place)
+    }
+
+    // The words of a record from `place` on, so many as the caller takes.
+    pub fn words_from<const N: usize>(&self, section: usize, number: u32, place: usize) -> [u32; N]
+        requires { (section < 14) × (place + N ≤ 16) }
+        ensures { result ≡ words_from self.now section number place N }
+    {
+        std::array::from_fn(|k| self.word(section, number, place + k))
     }
 }

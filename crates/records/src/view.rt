@@ -6,6 +6,7 @@ use crate::source::Source;
 use definition::layout::{CONSTANTS, ENTRIES, EXPRESSIONS, INITIALIZERS, SHAPES, TYPES};
 use definition::records::{Constant, Declaration, Entry, Expression, Initializer, Shape};
 
+#[tactic(auto, unfolding(definition::specs::Records::shape_of))]
 pub fn shape_of(kind: u32, a: u32, b: u32, c: u32, d: u32) -> Shape
     ensures { result ≡ shape_of kind a b c d }
 {
@@ -52,15 +53,12 @@ impl<'a> Source<'a> {
     pub fn shape(&self, n: u32) -> Shape
         ensures { result ≡ shape_at self.now n }
     {
-        let kind = self.word(SHAPES, n, 0);
-        let a = self.word(SHAPES, n, 1);
-        let b = self.word(SHAPES, n, 2);
-        let c = self.word(SHAPES, n, 3);
-        let d = self.word(SHAPES, n, 4);
+        let [kind, a, b, c, d] = self.words_from::<5>(SHAPES, n, 0);
         shape_of(kind, a, b, c, d)
     }
 }
 
+#[tactic(auto, unfolding(definition::specs::Records::declaration_of))]
 fn declaration_of(kind: u32, named: u32, start: u32, first: u32, many: u32) -> Declaration
     ensures { result ≡ declaration_of kind named start first many }
 {
@@ -88,15 +86,12 @@ impl<'a> Source<'a> {
     pub fn declaration(&self, t: u32) -> Declaration
         ensures { result ≡ declaration_at self.now t }
     {
-        let kind = self.word(TYPES, t, 4);
-        let named = self.word(TYPES, t, 5);
-        let start = self.word(TYPES, t, 6);
-        let first = self.word(TYPES, t, 7);
-        let many = self.word(TYPES, t, 8);
+        let [kind, named, start, first, many] = self.words_from::<5>(TYPES, t, 4);
         declaration_of(kind, named, start, first, many)
     }
 }
 
+#[tactic(auto, unfolding(definition::specs::Records::initializer_of))]
 fn initializer_of(
     kind: u32,
     value: u32,
@@ -137,15 +132,12 @@ impl<'a> Source<'a> {
         ensures { result ≡ initializer_at self.now i }
     {
         let kind = self.word(INITIALIZERS, i, 0);
-        let value = self.word(INITIALIZERS, i, 3);
-        let first = self.word(INITIALIZERS, i, 4);
-        let many = self.word(INITIALIZERS, i, 5);
-        let length = self.word(INITIALIZERS, i, 6);
-        let width = self.word(INITIALIZERS, i, 7);
+        let [value, first, many, length, width] = self.words_from::<5>(INITIALIZERS, i, 3);
         initializer_of(kind, value, first, many, length, width)
     }
 }
 
+#[tactic(auto, unfolding(definition::specs::Records::entry_of))]
 fn entry_of(kind: u32, a: u32, b: u32) -> Entry
     ensures { result ≡ entry_of kind a b }
 {
@@ -169,13 +161,12 @@ impl<'a> Source<'a> {
     pub fn entry(&self, e: u32) -> Entry
         ensures { result ≡ entry_at self.now e }
     {
-        let kind = self.word(ENTRIES, e, 0);
-        let a = self.word(ENTRIES, e, 2);
-        let b = self.word(ENTRIES, e, 3);
+        let [kind, _, a, b] = self.words_from::<4>(ENTRIES, e, 0);
         entry_of(kind, a, b)
     }
 }
 
+#[tactic(auto, unfolding(definition::specs::Records::expression_of))]
 fn expression_of(kind: u32, a: u32) -> Expression
     ensures { result ≡ expression_of kind a }
 {
@@ -196,8 +187,7 @@ impl<'a> Source<'a> {
     pub fn expression(&self, x: u32) -> Expression
         ensures { result ≡ expression_at self.now x }
     {
-        let kind = self.word(EXPRESSIONS, x, 0);
-        let a = self.word(EXPRESSIONS, x, 1);
+        let [kind, a] = self.words_from::<2>(EXPRESSIONS, x, 0);
         expression_of(kind, a)
     }
 }
@@ -207,12 +197,13 @@ impl<'a> Source<'a> {
     pub fn constant(&self, c: u32) -> Constant
         ensures { result ≡ constant_at self.now c }
     {
+        let [kind, sign, low, high, width] = self.words_from::<5>(CONSTANTS, c, 0);
         Constant {
-            kind: self.word(CONSTANTS, c, 0),
-            sign: self.word(CONSTANTS, c, 1),
-            low: self.word(CONSTANTS, c, 2),
-            high: self.word(CONSTANTS, c, 3),
-            width: self.word(CONSTANTS, c, 4),
+            kind,
+            sign,
+            low,
+            high,
+            width,
         }
     }
 }

@@ -22,6 +22,7 @@ fn section_end(file: &[u32], section: usize, at: usize) -> usize
 }
 
 // Where the count of each section stands, and behind them where the last section ends.
+#[tactic(auto, using(crate::proofs::Starting::starting))]
 pub fn find_sections(file: &[u32]) -> [usize; 15]
     ensures { StartsOf file.now result }
 {

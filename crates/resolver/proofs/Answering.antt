@@ -8,13 +8,12 @@ use lib.Dec.{eqb, leb, ltb}
 use lib.ListN.{length, take, drop, replicate}
 use borrow.Author.Rules.{rules}
 use borrow.Author.Tests.{eqb-true, eqb-false, ne_eqb, leb-true, ltb-true, le-leb, lt-leb, lt-ltb, le-ltb}
-use denote.Enum.Declared.{tag_of}
 use Rattle.definition.specs.Base.{choose}
 use Rattle.definition.specs.Layout.{count}
 use Rattle.definition.specs.Accept.{need, verdict}
 use Rattle.definition.specs.Tree.{Tree, nodes, flatten}
 use Rattle.definition.specs.Ask.{ok, none, large, Outcome}
-use Rattle.definition.specs.Answers.{refuses, number_of, line_words, room_words, cleared, enough, refused_tree, over, answered, tree_says, tree_answer, tree_out}
+use Rattle.definition.specs.Answers.{refuses, number_of, line_words, room_words, cleared, enough, refused_tree, over, answered, words_say, tree_says, tree_answer, tree_out, type_refused, type_tree_answer, type_tree_out, variable_refused, variable_tree_answer, variable_tree_out}
 use Rattle.laws.specs.Cases.{both}
 use Rattle.laws.specs.Accepted.{accepted}
 use Rattle.laws.specs.Whole.{flatten-length}
@@ -23,13 +22,14 @@ use Rattle.acceptance.proofs.Wanting.{at-least-one, file-passes, file-refuses}
 use Rattle.tree.specs.Words.{Stand, WroteCopy}
 use Rattle.tree.proofs.Standing.{wrote-so-is}
 use Rattle.lines.proofs.Copying.{wrote-not-is}
-use Rattle.build.specs.declared.built.Built.{Built}
-use Rattle.build.specs.declared.built.Built.TheVariants as built
-use Rattle.build.specs.contracts.built.Built.{the_type}
+use Rattle.build.specs.Built.{Built}
 use Rattle.driver.specs.Driver.{Given}
-use Rattle.driver.specs.Told.{Ample, Tells}
+use Rattle.driver.specs.declared.told.Owner.{Owner}
+use Rattle.driver.specs.declared.told.Owner.TheVariants as owner
+use Rattle.driver.specs.Told.{Ample, Tells, section_in, number_in, outcome_in}
 use Rattle.driver.proofs.Tabling.{tables-given}
-use Rattle.resolver.specs.Trees.{Writes, Passed}
+use Rattle.driver.proofs.Telling.{TreeIn}
+use Rattle.resolver.specs.Trees.{end_in, Stands, WritesTree, Writes, Passed, answer_in, out_in}
 use Rattle.std.specs.Prelude.{None, Option, Some}
 use Rattle.std.specs.Prelude.{Ok, Err}
 use Rattle.std.specs.Prelude as std
@@ -48,8 +48,8 @@ module _ (f : List ℕ) (lines room : ℕ) {n : ℕ} (q : n ≡ line_words f) wh
 
 -- ---- `admitted`
 -- no refusal has the number 0
-pub numbered : (r : Refusal) → number_of r ≡ 0 → ⊥
-numbered r h = omega (arith, at-least-one r)
+pub not-zero : (r : Refusal) → eqb (number_of r) 0 ≡ false
+not-zero r = ne_eqb (number_of r) 0 (λ h. absurd (omega (arith, at-least-one r)))
 
 module _ (f : List ℕ) (section number lines room : ℕ) where
   pub refused-file : (r : Refusal) → number_of r ≡ verdict f → number_of r ≡ refused_tree f (ltb number (count f section)) lines room
@@ -111,111 +111,7 @@ passed f section number lines room e {s} is = rw is (go (eqb (verdict f) 0) (ltb
     go true false d p q s h = absurd (omega arith)
     go false c d p q s h = absurd (eqb-false (verdict f) 0 p (sym h))
 
--- ---- `write`
--- what an answer in the room says of the outcome
-pub record TreeIn (o : Outcome) (e : ℕ) (room : List ℕ) : Type 0 where
-  pub tree : Tree
-  pub is : o ≡ ok tree
-  pub ends : e ≡ length (flatten tree)
-  pub stands : Stand room 0 (flatten tree) e
-
-pub tells-ends : {e : ℕ} {room : List ℕ} (o : Outcome) → Tells o (built.Ends e) room → TreeIn o e room
-tells-ends {e} (ok t) h = let s = h.gives.says in let i : e ≡ 0 + length (flatten t) = cc in record { tree = t; is = refl; ends = omega arith; stands = rw i h.gives.stands }
-tells-ends none h = let s = h.gives.says in let z : ◌≡◌ {A = ℕ} 0 1 = cc in absurd (omega arith)
-tells-ends large h = let s = h.gives.says in let z : ◌≡◌ {A = ℕ} 0 1 = cc in absurd (omega arith)
-
-pub tells_none : {room : List ℕ} (o : Outcome) → Tells o built.None room → o ≡ none
-tells_none (ok t) h = let s = h.gives.says in let z : ◌≡◌ {A = ℕ} 0 1 = cc in absurd (omega arith)
-tells_none none h = refl
-tells_none large h = let s = h.gives.says in let z : ◌≡◌ {A = ℕ} 0 1 = cc in absurd (omega arith)
-
-pub tells-large : {room : List ℕ} (o : Outcome) → Tells o built.TooLarge room → o ≡ large
-tells-large (ok t) h = let s = h.gives.says in let z : ◌≡◌ {A = ℕ} 0 1 = cc in absurd (omega arith)
-tells-large none h = let s = h.gives.says in let z : ◌≡◌ {A = ℕ} 0 1 = cc in absurd (omega arith)
-tells-large large h = refl
-
-pub tells-wanted : {X : Type 0} {d : ℕ} {room : List ℕ} (o : Outcome) → Tells o (built.Wanted d) room → X
-tells-wanted (ok t) h = let s = h.gives.says in let z : ◌≡◌ {A = ℕ} 0 1 = cc in absurd (omega arith)
-tells-wanted none h = let s = h.gives.says in let z : ◌≡◌ {A = ℕ} 0 1 = cc in absurd (omega arith)
-tells-wanted large h = let s = h.gives.says in let z : ◌≡◌ {A = ℕ} 0 1 = cc in absurd (omega arith)
-
-module _ {b : Built} {room old : List ℕ} where
-  pub writes-none : b ≡ built.None → Writes b room old (Ok None) old
-  unfolding number_of tree_says tree_answer tree_out
-  writes-none q = record {
-    says = λ o h. let e : o ≡ none = tells_none o (subst (λ (a : Built). Tells o a room) q h) in rw e;
-    is = λ o h. let e : o ≡ none = tells_none o (subst (λ (a : Built). Tells o a room) q h) in rw e;
-  }
-
-  pub writes-large : b ≡ built.TooLarge → Writes b room old (Err refusal.Large) old
-  unfolding number_of tree_says tree_answer tree_out
-  writes-large q = record {
-    says = λ o h. let e : o ≡ large = tells-large o (subst (λ (a : Built). Tells o a room) q h) in rw e;
-    is = λ o h. let e : o ≡ large = tells-large o (subst (λ (a : Built). Tells o a room) q h) in rw e;
-  }
-
-  module _ {e : ℕ} (q : b ≡ built.Ends e) {x : Option ℕ} {new : List ℕ} (w : WroteCopy room 0 e old 0 x new) where
-    there : (o : Outcome) → Tells o b room → TreeIn o e room
-    there o h = tells-ends o (subst (λ (a : Built). Tells o a room) q h)
-
-    copy_test : Bool
-    copy_test = leb (0 + e) (length room) && leb (0 + e) (length old)
-
-    fits-room : (o : Outcome) → Tells o b room → leb (0 + e) (length room) ≡ true
-    fits-room o h = le-leb (0 + e) (length room) (omega (arith, (there o h).stands.fits))
-
-    -- whether out has room, as the definition asks it
-    second : (p q : Bool) → p && q ≡ false → p ≡ true → q ≡ false
-    second true q g h = g
-    second false q g h = let z : ◌≡◌ {A = ℕ} 0 1 = absurd (differ h) in absurd (omega arith)
-      where
-        differ : false ≡ true → ⊥
-        differ h = let z : ◌≡◌ {A = ℕ} 0 1 = cc in omega arith
-
-    words_of : (o : Outcome) (h : Tells o b room) → 0 + e ≡ 6 * nodes (there o h).tree
-    words_of o h = omega (arith, (there o h).ends, flatten-length (there o h).tree)
-
-    short : x ≡ None → (o : Outcome) (h : Tells o b room) → leb (6 * nodes (there o h).tree) (length old) ≡ false
-    unfolding copy_test
-    short i o h = rw (words_of o h) at (second (leb (0 + e) (length room)) (leb (0 + e) (length old)) (wrote-not-is copy_test w i).0 (fits-room o h))
-
-    long : {n : ℕ} → x ≡ Some n → (o : Outcome) (h : Tells o b room) → leb (6 * nodes (there o h).tree) (length old) ≡ true
-    unfolding copy_test
-    long i o h = rw (words_of o h) at (both (leb (0 + e) (length room)) (leb (0 + e) (length old)) (wrote-so-is copy_test w i).0).1
-
-    pub writes-full : x ≡ None → Writes b room old (Err refusal.Short) new
-    unfolding number_of tree_says tree_answer tree_out over copy_test
-    writes-full i =
-        record {
-          says = λ o h. rw (there o h).is (rw (short i o h));
-          is = λ o h. let y = there o h in rw y.is (rw (flatten-length y.tree) (rw (short i o h) (wrote-not-is copy_test w i).1));
-        }
-
-    pub writes-tree : {n : ℕ} → x ≡ Some n → Writes b room old (Ok (Some (e / 6))) new
-    unfolding number_of tree_says tree_answer tree_out over copy_test
-    writes-tree i =
-        record {
-          says = λ o h. let y = there o h in let k : e / 6 ≡ nodes y.tree = omega (arith, words_of o h) in rw y.is (rw (long i o h, k));
-          is = λ o h.
-              let y = there o h in
-              let k : length (flatten y.tree) ≡ 6 * nodes y.tree = flatten-length y.tree in
-              let l : leb (length (flatten y.tree)) (length old) ≡ true = rw k (long i o h) in
-              let m : 0 + e ≡ length (flatten y.tree) = omega (arith, words_of o h) in
-              let t : take e room ≡ flatten y.tree = y.stands.is in
-              rw y.is (rw l ((wrote-so-is copy_test w i).2 ∙ ap (λ (d : ℕ). take e room ++ drop d old) m ∙ ap (λ (ws : List ℕ). ws ++ drop (length (flatten y.tree)) old) t));
-        }
-
-pub writes-wanted : {room old : List ℕ} (b : Built) → tag_of the_type b ≡ 3 → Writes b room old (Ok None) old
-writes-wanted (built.Ends e) q = absurd (omega arith)
-writes-wanted built.None q = absurd (omega arith)
-writes-wanted built.TooLarge q = absurd (omega arith)
-writes-wanted (built.Wanted d) q = record { says = λ o h. tells-wanted o h; is = λ o h. tells-wanted o h }
-
-pub ruleset writing = (rules, writes-none, writes-large, writes-full, writes-tree, writes-wanted)
-
-pub ruleset refusing = (rules, enough-not, enough-so, refused-file, refused-number, refused_none, refused-words)
-
--- ---- `type_built` and `variable_built`
+-- ---- `build_tree`
 module _ {f : List ℕ} {section number lines room : ℕ} (p : Passed f section number lines room) where
   pub passed-given : (words : List ℕ) {known : List ℕ} → known ≡ classes_of f ++ words → length known ≡ 2048 → Given f known room
   passed-given words c l = tables-given p.accepted p.roomy words c l
@@ -223,23 +119,143 @@ module _ {f : List ℕ} {section number lines room : ℕ} (p : Passed f section 
   pub passed-ample : Ample f lines
   passed-ample = record { lines = p.lined }
 
+pub tells-stands : {o : Outcome} {made : Built} {room : List ℕ} → Tells o made room → {r : std.Result (Option ℕ) Refusal} → r ≡ end_in made → Stands o r room
+tells-stands {o = ok t} {made} {room} h e =
+    let z : 0 + length (flatten t) ≡ length (flatten t) = omega arith in
+    record { held = (e ∙ ap end_in h.gives.says ∙ ap (λ (n : ℕ). Ok (Some n)) z, subst (λ (n : ℕ). Stand room 0 (flatten t) n) z h.gives.stands) }
+tells-stands {o = none} h e = record { held = e ∙ ap end_in h.gives.says }
+tells-stands {o = large} h e = record { held = e ∙ ap end_in h.gives.says }
+
+-- ---- what stands in the room where it was built
+module _ {room : List ℕ} where
+  pub stands-tree : (o : Outcome) {r : std.Result (Option ℕ) Refusal} → Stands o r room → {e : ℕ} → r ≡ Ok (Some e) → TreeIn o e room
+  stands-tree (ok t) h {e} q = let i = h.held.0 in let k : length (flatten t) ≡ e = cc in record { tree = t; is = refl; stands = subst (λ (e : ℕ). Stand room 0 (flatten t) e) k h.held.1 }
+  stands-tree none h q = let i = h.held in let z : ◌≡◌ {A = ℕ} 0 1 = cc in absurd (omega arith)
+  stands-tree large h q = let i = h.held in let z : ◌≡◌ {A = ℕ} 0 1 = cc in absurd (omega arith)
+
+  pub stands_none : (o : Outcome) {r : std.Result (Option ℕ) Refusal} → Stands o r room → r ≡ Ok None → o ≡ none
+  stands_none (ok t) h q = let i = h.held.0 in let z : ◌≡◌ {A = ℕ} 0 1 = cc in absurd (omega arith)
+  stands_none none h q = refl
+  stands_none large h q = let i = h.held in let z : ◌≡◌ {A = ℕ} 0 1 = cc in absurd (omega arith)
+
+  pub stands-large : (o : Outcome) {x : Refusal} → Stands o (Err x) room → (o ≡ large) × (x ≡ refusal.Large)
+  stands-large (ok t) h = let i = h.held.0 in let z : ◌≡◌ {A = ℕ} 0 1 = cc in absurd (omega arith)
+  stands-large none h = let i = h.held in let z : ◌≡◌ {A = ℕ} 0 1 = cc in absurd (omega arith)
+  stands-large large h = let i = h.held in (refl, cc)
+
+-- ---- `write`
+module _ {room : List ℕ} {e : ℕ} {old : List ℕ} {x : Option ℕ} {new : List ℕ} (w : WroteCopy room 0 e old 0 x new) where
+  copy_test : Bool
+  copy_test = leb (0 + e) (length room) && leb (0 + e) (length old)
+
+  module _ (t : Tree) (s : Stand room 0 (flatten t) e) where
+    long : 0 + e ≡ 6 * nodes t
+    long = omega (arith, s.long, flatten-length t)
+
+    fits-room : leb (0 + e) (length room) ≡ true
+    fits-room = le-leb (0 + e) (length room) (omega (arith, s.fits))
+
+    short : x ≡ None → leb (6 * nodes t) (length old) ≡ false
+    unfolding copy_test
+    short i = rw long at (second (leb (0 + e) (length room)) (leb (0 + e) (length old)) (wrote-not-is copy_test w i).0 fits-room)
+      where
+        second : (p q : Bool) → p && q ≡ false → p ≡ true → q ≡ false
+        second true q g h = g
+        second false q g h = let z : ◌≡◌ {A = ℕ} 0 1 = absurd (differ h) in absurd (omega arith)
+          where
+            differ : false ≡ true → ⊥
+            differ h = let z : ◌≡◌ {A = ℕ} 0 1 = cc in omega arith
+
+    enough_out : {n : ℕ} → x ≡ Some n → leb (6 * nodes t) (length old) ≡ true
+    unfolding copy_test
+    enough_out i = rw long at (both (leb (0 + e) (length room)) (leb (0 + e) (length old)) (wrote-so-is copy_test w i).0).1
+
+  pub writes-full : x ≡ None → WritesTree room e old (Err refusal.Short) new
+  unfolding number_of words_say tree_answer tree_out over copy_test
+  writes-full i =
+      record {
+        says = λ t s. rw (short t s i);
+        is = λ t s. rw (flatten-length t) (rw (short t s i) (wrote-not-is copy_test w i).1);
+      }
+
+  pub writes-tree : {n : ℕ} → x ≡ Some n → WritesTree room e old (Ok (e / 6)) new
+  unfolding number_of words_say tree_answer tree_out over copy_test
+  writes-tree i =
+      record {
+        says = λ t s. let k : e / 6 ≡ nodes t = omega (arith, long t s) in rw (enough_out t s i, k);
+        is = λ t s.
+            let k : length (flatten t) ≡ 6 * nodes t = flatten-length t in
+            let l : leb (length (flatten t)) (length old) ≡ true = rw k (enough_out t s i) in
+            let m : 0 + e ≡ length (flatten t) = omega (arith, long t s) in
+            let q : take e room ≡ flatten t = s.is in
+            rw l ((wrote-so-is copy_test w i).2 ∙ ap (λ (d : ℕ). take e room ++ drop d old) m ∙ ap (λ (ws : List ℕ). ws ++ drop (length (flatten t)) old) q);
+      }
+
+-- ---- `write_outcome`
+module _ {o : Outcome} {room : List ℕ} where
+  pub writes-large : {old : List ℕ} {x : Refusal} → Stands o (Err x) room → {r : std.Result (Option ℕ) Refusal} → r ≡ Err x → Writes o old r old
+  unfolding number_of tree_says tree_answer tree_out
+  writes-large h e = let k = stands-large o h in record { says = rw (e, k.0, k.1); is = rw k.0 }
+
+  module _ {a : std.Result (Option ℕ) Refusal} (h : Stands o a room) {x : Option ℕ} (q : a ≡ Ok x) where
+    pub writes-none : {old : List ℕ} → x ≡ None → Writes o old (Ok None) old
+    unfolding tree_says tree_answer tree_out
+    writes-none i = let k = stands_none o h (q ∙ ap (λ (x : Option ℕ). Ok x) i) in record { says = rw k; is = rw k }
+
+    module _ {e : ℕ} (i : x ≡ Some e) {old : List ℕ} {w : std.Result ℕ Refusal} {new : List ℕ} (p : WritesTree room e old w new) where
+      told : (r : std.Result (Option ℕ) Refusal) → words_say w ≡ tree_says r → Writes o old r new
+      told r s = let there : TreeIn o e room = stands-tree o h (q ∙ ap (λ (x : Option ℕ). Ok x) i) in record { says = sym s ∙ p.says there.tree there.stands ∙ ap (λ (o : Outcome). tree_answer o (length old)) (sym there.is); is = p.is there.tree there.stands ∙ ap (λ (o : Outcome). tree_out o old) (sym there.is) }
+
+      pub outcome-written : {n : ℕ} → w ≡ Ok n → Writes o old (Ok (Some n)) new
+      unfolding words_say tree_says
+      outcome-written {n} j = told (Ok (Some n)) (ap words_say j)
+
+      pub outcome-full : {y : Refusal} → w ≡ Err y → {r : std.Result (Option ℕ) Refusal} → r ≡ Err y → Writes o old r new
+      unfolding words_say tree_says
+      outcome-full {y} j {r} k = told r (rw (j, k))
+
+pub ruleset writing = (rules, tells-stands, writes-full, writes-tree, writes-large, writes-none, outcome-written, outcome-full)
+
+pub ruleset refusing = (rules, enough-not, enough-so, refused-file, refused-number, refused_none, refused-words)
+
 -- ---- the public functions
 pub cleared-same : {new : List ℕ} (mid old : List ℕ) → new ≡ cleared mid → length mid ≡ length old → new ≡ cleared old
 unfolding cleared
 cleared-same mid old e l = e ∙ ap (λ (n : ℕ). replicate n 0) l
 
--- ---- `type_answer` and `variable_answer`: the answer and the words of out, by the refusal
-module _ {refused : ℕ} (o : Outcome) (old : List ℕ) where
-  pub answer-refused : (x : Refusal) → number_of x ≡ refused → {r : std.Result (Option ℕ) Refusal} → r ≡ Err x → tree_says r ≡ answered refused refuses (λ u. tree_answer o (length old))
-  unfolding tree_says
-  answer-refused x e q = rw (q, ← e) (rw (ne_eqb (number_of x) 0 (numbered x)))
+-- ---- `tree_answer`: the answer and the words of out, by the refusal
+abbrev refused_of : List ℕ → Owner → ℕ → ℕ → ℕ
+refused_of f o lines room = refused_tree f (ltb (number_in o) (count f (section_in o))) lines room
 
-  pub out-refused : (x : Refusal) → number_of x ≡ refused → old ≡ answered refused (λ n. old) (λ u. tree_out o old)
-  out-refused x e = rw (← e) (rw (ne_eqb (number_of x) 0 (numbered x)))
+answer_is : (f : List ℕ) (o : Owner) (out lines room : ℕ) → answer_in f o out lines room ≡ answered (refused_of f o lines room) refuses (λ u. tree_answer (outcome_in f o) out)
+unfolding type_tree_answer type_refused variable_tree_answer variable_refused
+answer_is f (owner.Type t) out lines room = refl
+answer_is f (owner.Variable v) out lines room = refl
 
-  module _ (z : refused ≡ 0) {p : Outcome} (q : p ≡ o) {made : Built} {room : List ℕ} (h : Tells p made room) {r : std.Result (Option ℕ) Refusal} {new : List ℕ} (w : Writes made room old r new) where
-    pub answer-passed : tree_says r ≡ answered refused refuses (λ u. tree_answer o (length old))
-    answer-passed = rw (z, ← q) (w.says p h)
+out_is : (f : List ℕ) (o : Owner) (out : List ℕ) (lines room : ℕ) → out_in f o out lines room ≡ answered (refused_of f o lines room) (λ n. out) (λ u. tree_out (outcome_in f o) out)
+unfolding type_tree_out type_refused variable_tree_out variable_refused
+out_is f (owner.Type t) out lines room = refl
+out_is f (owner.Variable v) out lines room = refl
 
-    pub out-passed : new ≡ answered refused (λ n. old) (λ u. tree_out o old)
-    out-passed = rw (z, ← q) (w.is p h)
+module _ (f : List ℕ) (o : Owner) (lines room : ℕ) {section number : ℕ} (a : section ≡ section_in o) (b : number ≡ number_in o) where
+  same_refused : refused_tree f (ltb number (count f section)) lines room ≡ refused_of f o lines room
+  same_refused = rw (a, b)
+
+  module _ (x : Refusal) (e : number_of x ≡ refused_tree f (ltb number (count f section)) lines room) where
+    pub answer-refused : (out : ℕ) {r : std.Result (Option ℕ) Refusal} → r ≡ Err x → tree_says r ≡ answer_in f o out lines room
+    unfolding tree_says
+    answer-refused out q = rw (answer_is f o out lines room, q, ← same_refused, ← e) (rw (not-zero x))
+
+    pub out-refused : (old : List ℕ) → old ≡ out_in f o old lines room
+    out-refused old = rw (out_is f o old lines room, ← same_refused, ← e) (rw (not-zero x))
+
+  module _ (z : refused_tree f (ltb number (count f section)) lines room ≡ 0) {s : List ℕ} (is : s ≡ f) where
+    pub owner-passed : Passed s (section_in o) (number_in o) lines room
+    owner-passed = rw (is, ← a, ← b) (passed f section number lines room z refl)
+
+    module _ {old : List ℕ} {r : std.Result (Option ℕ) Refusal} {new : List ℕ} (w : Writes (outcome_in s o) old r new) where
+      pub answer-passed : tree_says r ≡ answer_in f o (length old) lines room
+      answer-passed = rw (answer_is f o (length old) lines room, ← same_refused, z, ← is) w.says
+
+      pub out-passed : new ≡ out_in f o old lines room
+      out-passed = rw (out_is f o old lines room, ← same_refused, z, ← is) w.is

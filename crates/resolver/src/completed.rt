@@ -2,40 +2,41 @@
 #![tactic(auto, using(crate::proofs::Completing::completing_laws))]
 
 ghost use Rattle.std.specs.Prelude.{◌≡◌, length};
+ghost use Rattle.definition.specs.Layout as Layout;
+ghost use Rattle.definition.specs.Starting.{variable_outcome};
 ghost use Rattle.definition.specs.Answers.{completed_says, cleared, completed_answer, completed_out};
+ghost use Rattle.resolver.specs.Trees.{Passed};
 ghost use Rattle.resolver.specs.Completed.{WritesCompleted};
 
+use crate::lent::with_lent;
 use crate::refusal::admitted;
-use crate::trees::{variable_built, write};
-use build::built::Built;
-use complete::answer::Completion;
+use crate::trees::{build_tree, write};
 use complete::completion::completion;
 use definition::answers::{Refusal, Slot};
 use definition::layout::VARIABLES;
-use lines::clear::clear;
-use records::source::Source;
+use driver::told::Owner;
+use records::file::File;
 
-// What was built at the front of the room is completed there, and goes to the front of out.
+// A variable's tree is completed at the front of the room, and goes to the front of out.
 fn write_completed(
-    file: &Source<'_>,
+    file: &File<'_>,
     v: u32,
-    built: Built,
-    room: &mut [u32],
     out: &mut [u32],
+    lines: &mut [u32],
+    room: &mut [u32],
 ) -> Result<Option<Slot>, Refusal>
-    ensures { WritesCompleted file.now v built room.old out.old result out.new }
+    requires { Passed file.now.source Layout.variables v (length lines.old) (length room.old) }
+    ensures { WritesCompleted file.now.source v (variable_outcome file.now.source v) out.old result out.new }
 {
-    match built {
-        Built::Ends(e) => match completion(file, v, room, 0, e) {
-            Completion::Completed(kind) => {
-                let nodes = write(Built::Ends(e), &room[..], out)?;
-                Ok(nodes.map(|nodes| Slot { kind, nodes }))
-            }
-            Completion::Left => Ok(None),
-        },
-        Built::None => Ok(None),
-        Built::TooLarge => Err(Refusal::Large),
-        Built::Wanted(_) => Ok(None),
+    let Some(end) = build_tree(file, Owner::Variable(v), lines, room)? else {
+        return Ok(None);
+    };
+    match completion(&file.source, v, room, 0, end) {
+        Some(kind) => {
+            let nodes = write(&room[..], end, out)?;
+            Ok(Some(Slot { kind, nodes }))
+        }
+        None => Ok(None),
     }
 }
 
@@ -51,8 +52,7 @@ fn slot_answer(
     ensures out { out.new ≡ completed_out words.now number out.old (length lines.old) (length room.old) }
 {
     let file = admitted(words, VARIABLES, number, lines.len(), room.len())?;
-    let built = variable_built(&file, number, lines, room);
-    write_completed(&file.source, number, built, room, out)
+    write_completed(&file, number, out, lines, room)
 }
 
 // The kind of a variable's completed initializer, and the tree in its slot, at the front of out.
@@ -68,8 +68,10 @@ pub fn completed(
     ensures lines { lines.new ≡ cleared lines.old }
     ensures room { room.new ≡ cleared room.old }
 {
-    let answer = slot_answer(words, number, out, lines, room);
-    clear(lines);
-    clear(room);
-    answer
+    with_lent(
+        out,
+        lines,
+        room,
+        |out, lines, room| slot_answer(words, number, out, lines, room),
+    )
 }

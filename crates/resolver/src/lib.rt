@@ -2,5 +2,6 @@
 #![tactic(auto)]
 
 pub mod completed;
+pub mod lent;
 pub mod refusal;
 pub mod trees;

@@ -2,88 +2,95 @@
 #![tactic(auto, using(crate::proofs::Answering::writing))]
 
 ghost use Rattle.std.specs.Prelude.{◌≡◌, length};
-ghost use Rattle.definition.specs.Layout as Layout;
 ghost use Rattle.definition.specs.Answers.{tree_says, cleared, type_tree_answer, type_tree_out, variable_tree_answer, variable_tree_out};
-ghost use Rattle.definition.specs.Starting.{type_outcome, variable_outcome};
-ghost use Rattle.driver.specs.Told.{Tells};
-ghost use Rattle.resolver.specs.Trees.{Writes, Passed};
+ghost use Rattle.driver.specs.Told.{section_in, number_in, outcome_in};
+ghost use Rattle.resolver.specs.Trees.{end_in, Stands, WritesTree, Writes, Passed, answer_in, out_in};
 
+use crate::lent::with_lent;
 use crate::refusal::admitted;
-use build::built::Built;
+use build::built::Unbuilt;
 use definition::answers::Refusal;
-use definition::layout::{NODE_WORDS, TYPES, VARIABLES};
+use definition::layout::NODE_WORDS;
 use driver::tables::KNOWN_WORDS;
-use driver::told::{type_outcome, variable_outcome};
-use lines::clear::clear;
+use driver::told::{Owner, outcome};
 use records::file::File;
 use shapes::classes::shape_classes;
 use tree::words::copy;
 
-// What was built at the front of the room goes to the front of out.
-pub fn write(built: Built, room: &[u32], out: &mut [u32]) -> Result<Option<usize>, Refusal>
-    ensures { Writes built room.now out.old result out.new }
+// What was built as an answer: where a tree ends, none, or refusal 8.
+fn tree_end(built: Result<usize, Unbuilt>) -> Result<Option<usize>, Refusal>
+    ensures { result ≡ end_in built }
 {
     match built {
-        Built::Ends(e) => match copy(room, 0, e, out, 0) {
-            Some(end) => Ok(Some(e / NODE_WORDS)),
-            None => Err(Refusal::Short),
-        },
-        Built::None => Ok(None),
-        Built::TooLarge => Err(Refusal::Large),
-        Built::Wanted(_) => Ok(None),
+        Ok(e) => Ok(Some(e)),
+        Err(Unbuilt::None) => Ok(None),
+        Err(Unbuilt::TooLarge) => Err(Refusal::Large),
+        Err(Unbuilt::Wanted(_)) => Ok(None),
     }
 }
 
-// A type's outcome, at the front of the room.
-fn type_built(file: &File<'_>, t: u32, lines: &mut [u32], room: &mut [u32]) -> Built
-    requires { Passed file.now.source Layout.types t (length lines.old) (length room.old) }
-    ensures { Tells (type_outcome file.now.source t) result room.new }
+// An outcome: where its tree ends, which is built at the front of the room.
+pub fn build_tree(
+    file: &File<'_>,
+    owner: Owner,
+    lines: &mut [u32],
+    room: &mut [u32],
+) -> Result<Option<usize>, Refusal>
+    requires { Passed file.now.source (section_in owner) (number_in owner) (length lines.old) (length room.old) }
+    ensures { Stands (outcome_in file.now.source owner) result room.new }
 {
     let mut known = [0u32; KNOWN_WORDS];
     shape_classes(file, &mut known);
-    type_outcome(file, &mut known, lines, t, room)
+    tree_end(outcome(file, &mut known, lines, owner, room))
 }
 
-// A variable's outcome, at the front of the room.
-pub fn variable_built(file: &File<'_>, v: u32, lines: &mut [u32], room: &mut [u32]) -> Built
-    requires { Passed file.now.source Layout.variables v (length lines.old) (length room.old) }
-    ensures { Tells (variable_outcome file.now.source v) result room.new }
+// The tree at the front of the room goes to the front of out: how many nodes it has.
+pub fn write(room: &[u32], end: usize, out: &mut [u32]) -> Result<usize, Refusal>
+    ensures { WritesTree room.now end out.old result out.new }
 {
-    let mut known = [0u32; KNOWN_WORDS];
-    shape_classes(file, &mut known);
-    variable_outcome(file, &mut known, lines, v, room)
+    match copy(room, 0, end, out, 0) {
+        Some(_) => Ok(end / NODE_WORDS),
+        None => Err(Refusal::Short),
+    }
 }
 
-// The tree of a type's default, at the front of out. The work words are left as they come.
-fn type_answer(
-    words: &[u32],
-    number: u32,
+// An outcome's tree at the front of out.
+fn write_outcome(
+    file: &File<'_>,
+    owner: Owner,
     out: &mut [u32],
     lines: &mut [u32],
     room: &mut [u32],
 ) -> Result<Option<usize>, Refusal>
-    ensures answer { tree_says result ≡ type_tree_answer words.now number (length out.old) (length lines.old) (length room.old) }
-    ensures out { out.new ≡ type_tree_out words.now number out.old (length lines.old) (length room.old) }
+    requires { Passed file.now.source (section_in owner) (number_in owner) (length lines.old) (length room.old) }
+    ensures { Writes (outcome_in file.now.source owner) out.old result out.new }
 {
-    let file = admitted(words, TYPES, number, lines.len(), room.len())?;
-    let built = type_built(&file, number, lines, room);
-    write(built, &room[..], out)
+    let Some(end) = build_tree(file, owner, lines, room)? else {
+        return Ok(None);
+    };
+    let nodes = write(&room[..], end, out)?;
+    Ok(Some(nodes))
 }
 
-// The tree of a variable's start value, at the front of out. The work words are left as they come.
-fn variable_answer(
+// The same for the accepted file that these words are. The work words are left as they come.
+fn tree_answer(
     words: &[u32],
-    number: u32,
+    owner: Owner,
     out: &mut [u32],
     lines: &mut [u32],
     room: &mut [u32],
 ) -> Result<Option<usize>, Refusal>
-    ensures answer { tree_says result ≡ variable_tree_answer words.now number (length out.old) (length lines.old) (length room.old) }
-    ensures out { out.new ≡ variable_tree_out words.now number out.old (length lines.old) (length room.old) }
+    ensures answer { tree_says result ≡ answer_in words.now owner (length out.old) (length lines.old) (length room.old) }
+    ensures out { out.new ≡ out_in words.now owner out.old (length lines.old) (length room.old) }
 {
-    let file = admitted(words, VARIABLES, number, lines.len(), room.len())?;
-    let built = variable_built(&file, number, lines, room);
-    write(built, &room[..], out)
+    let file = admitted(
+        words,
+        owner.section(),
+        owner.number(),
+        lines.len(),
+        room.len(),
+    )?;
+    write_outcome(&file, owner, out, lines, room)
 }
 
 // The tree of a type's default, at the front of out.
@@ -99,10 +106,9 @@ pub fn type_tree(
     ensures lines { lines.new ≡ cleared lines.old }
     ensures room { room.new ≡ cleared room.old }
 {
-    let answer = type_answer(words, number, out, lines, room);
-    clear(lines);
-    clear(room);
-    answer
+    with_lent(out, lines, room, |out, lines, room| {
+        tree_answer(words, Owner::Type(number), out, lines, room)
+    })
 }
 
 // The tree of a variable's start value, at the front of out.
@@ -118,8 +124,7 @@ pub fn variable_tree(
     ensures lines { lines.new ≡ cleared lines.old }
     ensures room { room.new ≡ cleared room.old }
 {
-    let answer = variable_answer(words, number, out, lines, room);
-    clear(lines);
-    clear(room);
-    answer
+    with_lent(out, lines, room, |out, lines, room| {
+        tree_answer(words, Owner::Variable(number), out, lines, room)
+    })
 }

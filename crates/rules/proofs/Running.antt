@@ -1,10 +1,9 @@
 -- Runs: inside their section first, then every record by its rule. Assumes nothing.
-use mathlib.Core.Path.{◌≡◌, sym, ◌∙◌}
-use mathlib.Core.Bool.{Bool, true, false, not}
+use mathlib.Core.Path.{◌≡◌}
+use mathlib.Core.Bool.{Bool, true, false}
 use mathlib.Core.List.{List}
 use Prim.Native.Nat.{ℕ, ◌+◌}
 use borrow.Author.Rules.{rules}
-use borrow.Author.Tests.{not-true, not-false}
 use Rattle.definition.specs.Base.{every}
 use Rattle.definition.specs.Accept.{run_in, run_of}
 
@@ -17,4 +16,4 @@ module _ (f : List ℕ) (s first many : ℕ) (rule : ℕ → Bool) {r : Bool} (e
   unfolding run_of
   run_is h k = rw (← e, h) k
 
-pub ruleset running = (rules, not-true, not-false, is-outside)
+pub ruleset running = (rules, is-outside)

@@ -1,8 +1,8 @@
 // Refusal 4, first part: whether a number, a link or a run is inside its section, and points at a record of the right kind.
 // The tests are joined by `&` and `|`, as in plain.rt: every read is in bounds, and an accepted file passes all of them.
-#![tactic(auto, using(records::proofs::Links::links))]
+#![tactic(auto)]
 
-ghost use Rattle.std.specs.Prelude.{◌≡◌, true, false, ◌+◌, ◌^◌, ◌<◌};
+ghost use Rattle.std.specs.Prelude.{◌≡◌, ℕ, suc, true, false, ◌+◌, ◌^◌, ◌<◌};
 ghost use Rattle.definition.specs.Base.{on_link};
 ghost use Rattle.definition.specs.Layout.{initializers};
 ghost use Rattle.definition.specs.Accept as Accept;
@@ -12,7 +12,7 @@ use definition::layout::{
 };
 use records::source::Source;
 
-#[tactic(auto, using(records::proofs::Links::links), unfolding(definition::specs::Accept::number_in))]
+#[tactic(auto, unfolding(definition::specs::Accept::number_in))]
 pub fn number_in(file: &Source<'_>, section: usize, n: u32) -> bool
     requires { section < 14 }
     ensures { result ≡ Accept.number_in file.now section n }
@@ -20,7 +20,7 @@ pub fn number_in(file: &Source<'_>, section: usize, n: u32) -> bool
     n < file.count(section)
 }
 
-#[tactic(auto, using(records::proofs::Links::links), unfolding(definition::specs::Accept::link_in))]
+#[tactic(auto, unfolding(definition::specs::Accept::link_in))]
 pub fn link_in(file: &Source<'_>, section: usize, n: u32) -> bool
     requires { section < 14 }
     ensures { result ≡ Accept.link_in file.now section n }
@@ -28,7 +28,7 @@ pub fn link_in(file: &Source<'_>, section: usize, n: u32) -> bool
     n <= file.count(section)
 }
 
-#[tactic(auto, using(records::proofs::Links::links), unfolding(definition::specs::Accept::run_in))]
+#[tactic(auto, unfolding(definition::specs::Accept::run_in))]
 pub fn run_in(file: &Source<'_>, section: usize, first: u32, many: u32) -> bool
     requires { section < 14 }
     ensures is { result ≡ Accept.run_in file.now section first many }
@@ -37,21 +37,21 @@ pub fn run_in(file: &Source<'_>, section: usize, first: u32, many: u32) -> bool
     (first as u64) + (many as u64) <= (file.count(section) as u64)
 }
 
-#[tactic(auto, using(records::proofs::Links::links), unfolding(definition::specs::Accept::constant_in))]
+#[tactic(auto, unfolding(definition::specs::Accept::constant_in))]
 pub fn constant_in(file: &Source<'_>, kind: u32, c: u32) -> bool
     ensures { result ≡ Accept.constant_in file.now kind c }
 {
     number_in(file, CONSTANTS, c) & (file.word(CONSTANTS, c, 0) == kind)
 }
 
-#[tactic(auto, using(records::proofs::Links::links), unfolding(definition::specs::Accept::enumerated_entry))]
+#[tactic(auto, unfolding(definition::specs::Accept::enumerated_entry))]
 pub fn enumerated_entry(file: &Source<'_>, e: u32) -> bool
     ensures { result ≡ Accept.enumerated_entry file.now e }
 {
     number_in(file, ENTRIES, e) & (file.word(ENTRIES, e, 1) == 0) & (file.word(ENTRIES, e, 0) == 1)
 }
 
-#[tactic(auto, using(records::proofs::Links::links), unfolding(definition::specs::Accept::reference_points))]
+#[tactic(auto, unfolding(definition::specs::Accept::reference_points))]
 fn reference_points(file: &Source<'_>, x: u32) -> bool
     ensures { result ≡ Accept.reference_points file.now x }
 {
@@ -59,35 +59,39 @@ fn reference_points(file: &Source<'_>, x: u32) -> bool
     number_in(file, EXPRESSIONS, x) & ((kind == 4) | (kind == 5))
 }
 
-// No link, or one to a constant of a kind.
-pub fn link_to_constant(file: &Source<'_>, kind: u32, link: u32) -> bool
-    ensures { result ≡ Accept.link_to (Accept.constant_in file.now kind) link }
+// No link, or one to a record that meets a rule.
+pub fn link_to<F: Fn(u32) -> bool>(link: u32, rule: F) -> bool
+    requires { F.IsAlwaysCallable rule }
+    ensures none { link ≡ 0 → result ≡ true }
+    ensures some { (n : ℕ) → link ≡ suc n → F.post rule n result }
 {
     if link == 0 {
         return true;
     }
-    constant_in(file, kind, link - 1)
+    rule(link - 1)
+}
+
+// No link, or one to a constant of a kind.
+pub fn link_to_constant(file: &Source<'_>, kind: u32, link: u32) -> bool
+    ensures { result ≡ Accept.link_to (Accept.constant_in file.now kind) link }
+{
+    link_to(link, |c| constant_in(file, kind, c))
 }
 
 pub fn link_to_enumerated(file: &Source<'_>, link: u32) -> bool
     ensures { result ≡ Accept.link_to (Accept.enumerated_entry file.now) link }
 {
-    if link == 0 {
-        return true;
-    }
-    enumerated_entry(file, link - 1)
+    link_to(link, |e| enumerated_entry(file, e))
 }
 
 pub fn link_to_reference(file: &Source<'_>, link: u32) -> bool
     ensures { result ≡ Accept.link_to (Accept.reference_points file.now) link }
 {
-    if link == 0 {
-        return true;
-    }
-    reference_points(file, link - 1)
+    link_to(link, |x| reference_points(file, x))
 }
 
 // An alias always has an initializer.
+#[tactic(auto, using(records::proofs::Links::links))]
 pub fn start_in(file: &Source<'_>, link: u32) -> bool
     ensures { result ≡ on_link link false (Accept.number_in file.now initializers) }
 {
@@ -98,7 +102,7 @@ pub fn start_in(file: &Source<'_>, link: u32) -> bool
 }
 
 // A type's name: a link, or inline where that is allowed.
-#[tactic(auto, using(records::proofs::Links::links), unfolding(definition::specs::Accept::name_in))]
+#[tactic(auto, unfolding(definition::specs::Accept::name_in))]
 pub fn name_in(file: &Source<'_>, inlined: bool, w: u32) -> bool
     ensures { result ≡ Accept.name_in file.now inlined w }
 {
@@ -106,7 +110,7 @@ pub fn name_in(file: &Source<'_>, inlined: bool, w: u32) -> bool
 }
 
 // A type's block fields: a run, or none where the Rust has no block record.
-#[tactic(auto, using(records::proofs::Links::links), unfolding(definition::specs::Accept::block_points))]
+#[tactic(auto, unfolding(definition::specs::Accept::block_points))]
 pub fn block_points(file: &Source<'_>, first: u32, many: u32) -> bool
     ensures { result ≡ Accept.block_points file.now first many }
 {

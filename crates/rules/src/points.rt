@@ -72,11 +72,7 @@ fn type_links(file: &Source<'_>, t: u32) -> bool
 fn type_declared(file: &Source<'_>, t: u32) -> bool
     ensures { result ≡ type_declared file.now t }
 {
-    let kind = file.word(TYPES, t, 4);
-    let name = file.word(TYPES, t, 5);
-    let start = file.word(TYPES, t, 6);
-    let first = file.word(TYPES, t, 7);
-    let many = file.word(TYPES, t, 8);
+    let [kind, name, start, first, many] = file.words_from::<5>(TYPES, t, 4);
     declaration_points(file, kind, name, start, first, many)
 }
 
@@ -84,8 +80,7 @@ fn type_declared(file: &Source<'_>, t: u32) -> bool
 pub fn type_points(file: &Source<'_>, t: u32) -> bool
     ensures { result ≡ Accept.type_points file.now t }
 {
-    let first = file.word(TYPES, t, 9);
-    let many = file.word(TYPES, t, 10);
+    let [first, many] = file.words_from::<2>(TYPES, t, 9);
     type_links(file, t) & type_declared(file, t) & block_points(file, first, many)
 }
 
@@ -112,10 +107,7 @@ pub fn value_points(file: &Source<'_>, kind: u32, value: u32, first: u32, many: 
 fn initializer_value(file: &Source<'_>, i: u32) -> bool
     ensures { result ≡ initializer_value file.now i }
 {
-    let kind = file.word(INITIALIZERS, i, 0);
-    let value = file.word(INITIALIZERS, i, 3);
-    let first = file.word(INITIALIZERS, i, 4);
-    let many = file.word(INITIALIZERS, i, 5);
+    let [kind, _, _, value, first, many] = file.words_from::<6>(INITIALIZERS, i, 0);
     value_points(file, kind, value, first, many)
 }
 
@@ -124,15 +116,13 @@ fn initializer_value(file: &Source<'_>, i: u32) -> bool
 pub fn initializer_points(file: &Source<'_>, i: u32) -> bool
     ensures { result ≡ Accept.initializer_points file.now i }
 {
-    let kind = file.word(INITIALIZERS, i, 0);
-    let name = file.word(INITIALIZERS, i, 1);
-    let element = file.word(INITIALIZERS, i, 2);
+    let [kind, name, element] = file.words_from::<3>(INITIALIZERS, i, 0);
     name_in(file, (kind == 2) | (kind == 9), name)
         & link_in(file, TYPES, element)
         & initializer_value(file, i)
 }
 
-#[tactic(auto, unfolding(definition::specs::Accept::entry_points))]
+#[tactic(auto, unfolding(definition::specs::Accept::entry_points, definition::specs::Accept::lower_run))]
 pub fn entry_points(file: &Source<'_>, e: u32, kind: u32, a: u32, b: u32) -> bool
     ensures { result ≡ Accept.entry_points file.now e kind a b }
 {

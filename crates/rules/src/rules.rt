@@ -21,11 +21,7 @@ use records::source::Source;
 fn shape_words(file: &Source<'_>, n: u32) -> bool
     ensures { result ≡ plain_rule file.now 1 n }
 {
-    let kind = file.word(SHAPES, n, 0);
-    let a = file.word(SHAPES, n, 1);
-    let b = file.word(SHAPES, n, 2);
-    let c = file.word(SHAPES, n, 3);
-    let d = file.word(SHAPES, n, 4);
+    let [kind, a, b, c, d] = file.words_from::<5>(SHAPES, n, 0);
     shape_plain(kind, a, b, c, d)
 }
 
@@ -33,11 +29,7 @@ fn shape_words(file: &Source<'_>, n: u32) -> bool
 fn type_words(file: &Source<'_>, n: u32) -> bool
     ensures { result ≡ plain_rule file.now 5 n }
 {
-    let kind = file.word(TYPES, n, 4);
-    let named = file.word(TYPES, n, 5);
-    let start = file.word(TYPES, n, 6);
-    let first = file.word(TYPES, n, 7);
-    let many = file.word(TYPES, n, 8);
+    let [kind, named, start, first, many] = file.words_from::<5>(TYPES, n, 4);
     type_plain(kind, named, start, first, many)
 }
 
@@ -45,14 +37,11 @@ fn type_words(file: &Source<'_>, n: u32) -> bool
 fn initializer_words(file: &Source<'_>, n: u32) -> bool
     ensures { result ≡ plain_rule file.now 9 n }
 {
-    let kind = file.word(INITIALIZERS, n, 0);
-    let named = file.word(INITIALIZERS, n, 1);
-    let element = file.word(INITIALIZERS, n, 2);
-    let value = file.word(INITIALIZERS, n, 3);
-    let first = file.word(INITIALIZERS, n, 4);
-    let many = file.word(INITIALIZERS, n, 5);
-    let length = file.word(INITIALIZERS, n, 6);
-    let width = file.word(INITIALIZERS, n, 7);
+    let [kind, named, element, value, first, many, length, width] = file.words_from::<8>(
+        INITIALIZERS,
+        n,
+        0,
+    );
     initializer_plain(kind, named, element, value, first, many, length, width)
 }
 
@@ -60,9 +49,7 @@ fn initializer_words(file: &Source<'_>, n: u32) -> bool
 fn entry_words(file: &Source<'_>, n: u32) -> bool
     ensures { result ≡ plain_rule file.now 10 n }
 {
-    let kind = file.word(ENTRIES, n, 0);
-    let a = file.word(ENTRIES, n, 2);
-    let b = file.word(ENTRIES, n, 3);
+    let [kind, _, a, b] = file.words_from::<4>(ENTRIES, n, 0);
     entry_plain(kind, a, b)
 }
 
@@ -70,11 +57,7 @@ fn entry_words(file: &Source<'_>, n: u32) -> bool
 fn constant_words(file: &Source<'_>, n: u32) -> bool
     ensures { result ≡ plain_rule file.now 12 n }
 {
-    let kind = file.word(CONSTANTS, n, 0);
-    let sign = file.word(CONSTANTS, n, 1);
-    let low = file.word(CONSTANTS, n, 2);
-    let high = file.word(CONSTANTS, n, 3);
-    let width = file.word(CONSTANTS, n, 4);
+    let [kind, sign, low, high, width] = file.words_from::<5>(CONSTANTS, n, 0);
     constant_plain(kind, sign, low, high, width)
 }
 
@@ -111,11 +94,7 @@ pub fn plain_rule(file: &Source<'_>, section: usize, n: u32) -> bool
 fn shape_links(file: &Source<'_>, n: u32) -> bool
     ensures { result ≡ point_rule file.now 1 n }
 {
-    let kind = file.word(SHAPES, n, 0);
-    let a = file.word(SHAPES, n, 1);
-    let b = file.word(SHAPES, n, 2);
-    let c = file.word(SHAPES, n, 3);
-    let d = file.word(SHAPES, n, 4);
+    let [kind, a, b, c, d] = file.words_from::<5>(SHAPES, n, 0);
     shape_points(file, n, kind, a, b, c, d)
 }
 
@@ -131,9 +110,7 @@ fn variable_links(file: &Source<'_>, n: u32) -> bool
 fn entry_links(file: &Source<'_>, n: u32) -> bool
     ensures { result ≡ point_rule file.now 10 n }
 {
-    let kind = file.word(ENTRIES, n, 0);
-    let a = file.word(ENTRIES, n, 2);
-    let b = file.word(ENTRIES, n, 3);
+    let [kind, _, a, b] = file.words_from::<4>(ENTRIES, n, 0);
     entry_points(file, n, kind, a, b)
 }
 
@@ -141,8 +118,7 @@ fn entry_links(file: &Source<'_>, n: u32) -> bool
 fn expression_links(file: &Source<'_>, n: u32) -> bool
     ensures { result ≡ point_rule file.now 11 n }
 {
-    let kind = file.word(EXPRESSIONS, n, 0);
-    let a = file.word(EXPRESSIONS, n, 1);
+    let [kind, a] = file.words_from::<2>(EXPRESSIONS, n, 0);
     expression_points(file, n, kind, a)
 }
 
@@ -150,9 +126,7 @@ fn expression_links(file: &Source<'_>, n: u32) -> bool
 fn constant_links(file: &Source<'_>, n: u32) -> bool
     ensures { result ≡ point_rule file.now 12 n }
 {
-    let kind = file.word(CONSTANTS, n, 0);
-    let low = file.word(CONSTANTS, n, 2);
-    let high = file.word(CONSTANTS, n, 3);
+    let [kind, _, low, high] = file.words_from::<4>(CONSTANTS, n, 0);
     constant_points(file, kind, low, high)
 }
 

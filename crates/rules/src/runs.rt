@@ -7,12 +7,13 @@ ghost use Rattle.definition.specs.Layout.{shape_fields, entries};
 ghost use Rattle.definition.specs.Accept as Accept;
 ghost use Rattle.rules.specs.Rules as Rules;
 
-use crate::inside::run_in;
+use crate::inside::{link_to, run_in};
 use definition::layout::{ENTRIES, SHAPE_FIELDS};
 use plain::words::is_name;
 use records::source::Source;
 
 // Kinds 2 and 5 stand only in member lists.
+#[tactic(auto, unfolding(crate::specs::Rules::array_kind))]
 fn array_kind(kind: u32) -> bool
     ensures { result ≡ Rules.array_kind kind }
 {
@@ -47,30 +48,22 @@ fn member_entry(file: &Source<'_>, e: u32) -> bool
 pub fn fields_below(file: &Source<'_>, shape: u32, first: u32, many: u32) -> bool
     ensures { result ≡ Accept.run_of file.now shape_fields (λ k. ltb (Layout.word file.now shape_fields k 1) shape) first many }
 {
-    if !run_in(file, SHAPE_FIELDS, first, many) {
-        return false;
-    }
-    (0..many).all(|j| file.word(SHAPE_FIELDS, first + j, 1) < shape)
+    run_in(file, SHAPE_FIELDS, first, many)
+        && (0..many).all(|j| file.word(SHAPE_FIELDS, first + j, 1) < shape)
 }
 
 // A run of an array's entries.
 pub fn array_run(file: &Source<'_>, first: u32, many: u32) -> bool
     ensures { result ≡ Accept.run_of file.now entries (Accept.array_entry file.now) first many }
 {
-    if !run_in(file, ENTRIES, first, many) {
-        return false;
-    }
-    (0..many).all(|j| array_entry(file, first + j))
+    run_in(file, ENTRIES, first, many) && (0..many).all(|j| array_entry(file, first + j))
 }
 
 // A run of a member list's entries.
 pub fn member_run(file: &Source<'_>, first: u32, many: u32) -> bool
     ensures { result ≡ Accept.run_of file.now entries (Accept.member_entry file.now) first many }
 {
-    if !run_in(file, ENTRIES, first, many) {
-        return false;
-    }
-    (0..many).all(|j| member_entry(file, first + j))
+    run_in(file, ENTRIES, first, many) && (0..many).all(|j| member_entry(file, first + j))
 }
 
 // Entries point only to lower entries; an empty run points at none.
@@ -80,19 +73,9 @@ pub fn run_below(e: u32, first: u32, many: u32) -> bool
     ((first as u64) + (many as u64) <= (e as u64)) | (many == 0)
 }
 
-fn lower_array_entry(file: &Source<'_>, e: u32, i: u32) -> bool
-    ensures { result ≡ ltb i e && Accept.array_entry file.now i }
-{
-    (i < e) & array_entry(file, i)
-}
-
 // A repeat's inner entry.
-#[tactic(auto, using(records::proofs::Links::links))]
 pub fn link_to_lower(file: &Source<'_>, e: u32, link: u32) -> bool
     ensures { result ≡ Accept.link_to (λ i. ltb i e && Accept.array_entry file.now i) link }
 {
-    if link == 0 {
-        return true;
-    }
-    lower_array_entry(file, e, link - 1)
+    link_to(link, |i| (i < e) & array_entry(file, i))
 }

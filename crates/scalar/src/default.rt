@@ -13,13 +13,11 @@ use crate::string::cut_string;
 use definition::records::{Constant, Shape};
 
 // A temporal literal is long for a type of 64 bits.
+#[tactic(auto, unfolding(definition::specs::Scalar::long))]
 fn long(bits: u32) -> u32
     ensures { result ≡ scalar.long bits }
 {
-    if bits == 64 {
-        return 1;
-    }
-    0
+    (bits == 64) as u32
 }
 
 fn zero_of(kind: u32, width: u32) -> Option<Constant>

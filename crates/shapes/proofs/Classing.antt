@@ -12,7 +12,7 @@ use Rattle.laws.specs.Accepted.{Accepted}
 use Rattle.shapes.specs.Alike.{same_in, first_like}
 use Rattle.records.specs.Tables.{table_of, Filled, table_at}
 use Rattle.shapes.specs.Classes.{shape_class, classes_of, Classes, next-class, by-class}
-use Rattle.records.proofs.Filling.{filled-part}
+use Rattle.records.proofs.Filling.{none_filled, filled-part}
 
 module _ (f : List ℕ) {n : ℕ} {lent words : List ℕ} (i : Filled (shape_class f) n lent words) where
   pub class-next : Accepted f → n < count f shapes → {r : ℕ} → r ≡ first_like f (take n words) false n → r ≡ shape_class f n
@@ -26,4 +26,6 @@ pub same_by : {f classes : List ℕ} → Accepted f → Classes f classes → (m
     → r ≡ same_shape f m n
 same_by {f} a c m n h l e = e ∙ sym (by-class f a c m n h l)
 
-pub ruleset classing = (rules, classes-filled, same_by)
+pub ruleset filling = (rules, none_filled, classes-filled)
+
+pub ruleset classing = (rules, same_by)

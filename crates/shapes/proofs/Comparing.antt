@@ -11,13 +11,11 @@ use lib.ListN.{length, get_or, get_or-eq_default}
 use borrow.Author.Rules.{rules}
 use borrow.Author.Tests.{eq-eqb, ne_eqb, lt-ltb, le-ltb, ltb-true, ltb-false}
 use Rattle.definition.specs.Base.{pick, every}
-use Rattle.definition.specs.Layout.{shapes, members, word}
+use Rattle.definition.specs.Layout.{shapes, word}
 use Rattle.definition.specs.Records.{shape_of, shape_at}
-use Rattle.definition.specs.Accept.{same_member, same_field, same_dimension, listed, same_link, like_by, shapes_like}
+use Rattle.definition.specs.Accept.{same_member, same_dimension, listed, same_link, like_by, shapes_like}
 use Rattle.laws.specs.Cases.{never, by_kind}
-use Rattle.shapes.specs.declared.alike.Listing.{Listing}
-use Rattle.shapes.specs.declared.alike.Listing.TheVariants.{Members, Fields, Dimensions}
-use Rattle.shapes.specs.Alike.{class_in, same_in, same_listed, like_at, told_by_first, words_like, members_like, array_like, lowest}
+use Rattle.shapes.specs.Alike.{class_in, same_in, like_at, told_by_first, words_like, members_like, array_like, lowest}
 use Rattle.records.proofs.Listed.{more, agree_at, in-run, past}
 use Rattle.records.proofs.Scanning.{scans}
 
@@ -56,19 +54,6 @@ module _ (same : ℕ → ℕ → Bool) (a m b n : ℕ) where
   pub runs-are : m ≡ n → {r : Bool} → r ≡ every (λ j. same (a + j) (b + j)) m → r ≡ listed same a m b n
   unfolding listed
   runs-are e h = rw (eq-eqb m n e) h
-
-module _ (f classes : List ℕ) (listing : Listing) (m n : ℕ) {r : Bool} where
-  pub by_members : listing ≡ Members → r ≡ eqb (word f members m 0) (word f members n 0) → r ≡ same_listed f classes listing m n
-  unfolding same_listed same_member
-  by_members e h = rw e h
-
-  pub by-fields : listing ≡ Fields → r ≡ same_field f (same_in classes) m n → r ≡ same_listed f classes listing m n
-  unfolding same_listed
-  by-fields e h = rw e h
-
-  pub by-dimensions : listing ≡ Dimensions → r ≡ same_dimension f m n → r ≡ same_listed f classes listing m n
-  unfolding same_listed
-  by-dimensions e h = rw e h
 
 -- ---- kinds whose first word tells
 module _ {k : ℕ} where
@@ -167,7 +152,7 @@ module _ (f classes : List ℕ) (enumerated : Bool) (m n : ℕ) where
     members-stop e h = rw (e, ← q, h, and-false)
 
     pub members-go : enumerated ≡ true → s ≡ true → {r : Bool}
-        → r ≡ listed (same_listed f classes Members) (word f shapes m 1) (word f shapes m 2) (word f shapes n 1) (word f shapes n 2)
+        → r ≡ listed (same_member f) (word f shapes m 1) (word f shapes m 2) (word f shapes n 1) (word f shapes n 2)
         → r ≡ members_like f classes enumerated m n
     unfolding members_like
     members-go e h l = rw (e, ← q, h, and-true) l
@@ -178,7 +163,7 @@ module _ (f classes : List ℕ) (enumerated : Bool) (m n : ℕ) where
     array-stop h = rw (← q, h)
 
     pub array-go : s ≡ true → {r : Bool}
-        → r ≡ listed (same_listed f classes Dimensions) (word f shapes m 2) (word f shapes m 3) (word f shapes n 2) (word f shapes n 3) → r ≡ array_like f classes m n
+        → r ≡ listed (same_dimension f) (word f shapes m 2) (word f shapes m 3) (word f shapes n 2) (word f shapes n 3) → r ≡ array_like f classes m n
     unfolding array_like
     array-go h l = rw (← q, h) l
 
@@ -209,7 +194,7 @@ pub none_at_all : {p : ℕ → Bool} {n : ℕ} → None p n → (m : ℕ) → n 
 none_at_all {n = n} i m h l = let e : m ≡ n = omega arith in rw e (sym i.far)
 
 pub ruleset comparing =
-    (scans, link-none, link-one, link-both, runs-differ, runs-are, by_members, by-fields, by-dimensions, kinds-differ, kinds-are, told-apart, by-sizes, by_names, by-target, no_kind, members-free, members-stop, members-go, array-stop, array-go)
+    (scans, link-none, link-one, link-both, runs-differ, runs-are, kinds-differ, kinds-are, told-apart, by-sizes, by_names, by-target, no_kind, members-free, members-stop, members-go, array-stop, array-go)
 
 pub ruleset lowests = (rules, none_below, not-here, found_here, none_at_all)
 

@@ -8,13 +8,12 @@ use native.Mathlib.Numerals.{add-one}
 use lib.Dec.{eqb}
 use lib.ListN.{length, get_or, drop, length-append, get_or-append}
 use borrow.Author.Rules.{rules}
-use borrow.Author.Tests.{eqb-true, not-true, not-false}
+use borrow.Author.Tests.{eqb-true}
 use Rattle.definition.specs.Base.{every, choose}
 use Rattle.definition.specs.Layout.{shapes, members, shape_fields, dimensions, count, word}
 use Rattle.definition.specs.Records.{shape_of, shape_at}
 use Rattle.definition.specs.Accept.{listed, same_member, same_field, same_dimension, same_integer, same_link, like_by, shapes_like, alike, shapes_differ}
 use Rattle.laws.specs.Cases.{never, both, by_kind}
-use Rattle.records.proofs.Scanning.{Passed, none_yet, all-passed, passes, fails}
 use Rattle.records.specs.Tables.{Filled, table_of, table-length, table_at}
 use Rattle.shapes.specs.Keys.{run_sum, key_by, key_of, Keyed}
 
@@ -168,14 +167,8 @@ module _ (f : List ℕ) where
     pub keyed-apart : {keys : List ℕ} → Keyed f keys (suc n) → (m : ℕ) → m < n → (get_or keys m 0 ≡ get_or keys n 0 → ⊥) → false ≡ alike f m n
     keyed-apart k m l p = keys-differ f m n (k.at m (omega arith)) (k.at n (omega arith)) p
 
-    pub alike-passes : {m : ℕ} → Passed (λ m. not (alike f m n)) m → {r : Bool} → r ≡ alike f m n → r ≡ false → Passed (λ m. not (alike f m n)) (m + 1)
-    alike-passes i e h = passes i refl (rw (← e, h))
-
-    pub alike-fails : {m : ℕ} → Passed (λ m. not (alike f m n)) m → {r : Bool} → r ≡ alike f m n → r ≡ true → m < n → false ≡ every (λ m. not (alike f m n)) n
-    alike-fails i e h l = fails i refl (rw (← e, h)) n l
-
 pub ruleset summing = (rules, none-summed, one-summed, all-summed)
 
 pub ruleset keying = (rules, key-bool, key-members, key-fields, key-dimensions, key-word)
 
-pub ruleset apart = (rules, not-true, not-false, none_yet, all-passed, passes, fails, keyed-less, keyed-filled, all_apart, keyed-apart, alike-passes, alike-fails)
+pub ruleset apart = (rules, keyed-less, keyed-filled, all_apart, keyed-apart)

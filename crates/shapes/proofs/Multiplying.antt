@@ -77,3 +77,5 @@ module _ (f : List ℕ) (n : ℕ) {kind : ℕ} (k : kind ≡ word f shapes n 0) 
   an-array p {first} {many} a b h = rw (← k, eq-eqb kind 12 p, ← a, ← b, h) (small_is (elements_of f first many))
 
 pub ruleset multiplying = (rules, none-counted, one_more, all-multiplied, no-array, an-array)
+
+pub ruleset spans = (rules, span_none, span-is)

@@ -1,11 +1,9 @@
 -- Comparing shapes where those inside are compared by a number that stands for each, and the lowest shape that is like another.
-use Rattle.std.specs.Prelude.{Bool, true, false, not, ◌&&◌, ◌||◌, List, [], ◌∷◌, ℕ, zero, suc, eqb, ltb, get_or}
+use Rattle.std.specs.Prelude.{◌≡◌, ◌+◌, Bool, true, false, not, ◌&&◌, ◌||◌, List, [], ◌∷◌, ℕ, zero, suc, eqb, ltb, get_or}
 use Rattle.definition.specs.Base.{pick}
 use Rattle.definition.specs.Layout.{shapes, word}
 use Rattle.definition.specs.Records.{shape_of}
-use Rattle.definition.specs.Accept.{same_member, same_field, same_dimension, listed, like_by, shapes_like}
-use Rattle.shapes.specs.declared.alike.Listing.{Listing}
-use Rattle.shapes.specs.declared.alike.Listing.TheVariants.{Members, Fields, Dimensions}
+use Rattle.definition.specs.Accept.{same_member, same_dimension, listed, like_by, shapes_like}
 
 -- the number that stands for a shape: in the list, or its own past the list
 abbrev pub class_in : List ℕ → ℕ → ℕ
@@ -14,11 +12,9 @@ class_in classes n = get_or classes n n
 abbrev pub same_in : List ℕ → ℕ → ℕ → Bool
 same_in classes m n = eqb (class_in classes m) (class_in classes n)
 
--- two records of a listing are the same
-unfoldable pub same_listed : List ℕ → List ℕ → Listing → ℕ → ℕ → Bool
-same_listed f classes Members = same_member f
-same_listed f classes Fields = same_field f (same_in classes)
-same_listed f classes Dimensions = same_dimension f
+-- two runs list the same, where answers for a pair of their records say so, whatever the comparison is that they give
+pub record ListedBy (answers : ℕ → ℕ → ℕ → Bool → Type 0) (a m b n : ℕ) (r : Bool) : Type 0 where
+  pub is : (same : ℕ → ℕ → Bool) → ((j : ℕ) (x : Bool) → answers a b j x → x ≡ same (a + j) (b + j)) → r ≡ listed same a m b n
 
 -- shapes m and n, where both have one kind
 unfoldable pub like_at : List ℕ → List ℕ → Bool → ℕ → ℕ → ℕ → Bool
@@ -41,13 +37,13 @@ told_by_first kind =
 unfoldable pub members_like : List ℕ → List ℕ → Bool → ℕ → ℕ → Bool
 members_like f classes enumerated m n =
     not enumerated
-    || (listed (same_listed f classes Members) (word f shapes m 1) (word f shapes m 2) (word f shapes n 1) (word f shapes n 2)
+    || (listed (same_member f) (word f shapes m 1) (word f shapes m 2) (word f shapes n 1) (word f shapes n 2)
     && eqb (word f shapes m 3) (word f shapes n 3))
 
 unfoldable pub array_like : List ℕ → List ℕ → ℕ → ℕ → Bool
 array_like f classes m n =
     same_in classes (word f shapes m 1) (word f shapes n 1)
-    && listed (same_listed f classes Dimensions) (word f shapes m 2) (word f shapes m 3) (word f shapes n 2) (word f shapes n 3)
+    && listed (same_dimension f) (word f shapes m 2) (word f shapes m 3) (word f shapes n 2) (word f shapes n 3)
 
 -- the lowest number below n that meets a test, or n
 unfoldable pub lowest : (ℕ → Bool) → ℕ → ℕ

@@ -4,19 +4,12 @@
 
 ghost use Rattle.std.specs.Prelude.{◌≡◌, ◌+◌, ◌<◌, eqb};
 ghost use Rattle.definition.specs.Layout as Layout;
+ghost use Rattle.definition.specs.Layout.{shapes};
 ghost use Rattle.definition.specs.Accept as Accept;
-ghost use Rattle.shapes.specs.Alike.{class_in, same_in, same_listed};
+ghost use Rattle.shapes.specs.Alike.{class_in, same_in, ListedBy};
 
-use definition::layout::{DIMENSIONS, MEMBERS, SHAPE_FIELDS};
+use definition::layout::{DIMENSIONS, SHAPE_FIELDS, SHAPES};
 use records::source::Source;
-
-// What a run lists.
-#[derive(Clone, Copy)]
-pub enum Listing {
-    Members,
-    Fields,
-    Dimensions,
-}
 
 fn class_in(classes: &[u32], n: u32) -> u32
     ensures { result ≡ class_in classes.now n }
@@ -47,7 +40,14 @@ pub fn same_link(classes: &[u32], m: u32, n: u32) -> bool
 }
 
 // Word `place` is the same in records `a + j` and `b + j`.
-fn same_run_word(file: &Source<'_>, section: usize, a: u32, b: u32, j: u32, place: usize) -> bool
+pub fn same_run_word(
+    file: &Source<'_>,
+    section: usize,
+    a: u32,
+    b: u32,
+    j: u32,
+    place: usize,
+) -> bool
     requires { (section < 14) × (place < 16) }
     ensures { result ≡ eqb (Layout.word file.now section (a + j) place) (Layout.word file.now section (b + j) place) }
 {
@@ -55,7 +55,7 @@ fn same_run_word(file: &Source<'_>, section: usize, a: u32, b: u32, j: u32, plac
 }
 
 #[tactic(auto, using(crate::proofs::Comparing::comparing), unfolding(definition::specs::Accept::same_field))]
-fn same_field(file: &Source<'_>, classes: &[u32], a: u32, b: u32, j: u32) -> bool
+pub fn same_field(file: &Source<'_>, classes: &[u32], a: u32, b: u32, j: u32) -> bool
     ensures { result ≡ Accept.same_field file.now (same_in classes.now) (a + j) (b + j) }
 {
     let left = file.run_word(SHAPE_FIELDS, a, j, 1);
@@ -66,36 +66,32 @@ fn same_field(file: &Source<'_>, classes: &[u32], a: u32, b: u32, j: u32) -> boo
 }
 
 #[tactic(auto, using(crate::proofs::Comparing::comparing), unfolding(definition::specs::Accept::same_dimension))]
-fn same_dimension(file: &Source<'_>, a: u32, b: u32, j: u32) -> bool
+pub fn same_dimension(file: &Source<'_>, a: u32, b: u32, j: u32) -> bool
     ensures { result ≡ Accept.same_dimension file.now (a + j) (b + j) }
 {
     same_run_word(file, DIMENSIONS, a, b, j, 0) & same_run_word(file, DIMENSIONS, a, b, j, 1)
 }
 
-fn same_listed(file: &Source<'_>, classes: &[u32], listing: Listing, a: u32, b: u32, j: u32) -> bool
-    ensures { result ≡ same_listed file.now classes.now listing (a + j) (b + j) }
-{
-    match listing {
-        Listing::Members => same_run_word(file, MEMBERS, a, b, j, 0),
-        Listing::Fields => same_field(file, classes, a, b, j),
-        Listing::Dimensions => same_dimension(file, a, b, j),
-    }
-}
-
-// Two runs list the same.
-pub fn same_run(
+// The runs at word `place` of two shapes list the same: `same` compares records `a + j` and `b + j`.
+pub fn same_runs<F: Fn(u32, u32, u32) -> bool>(
     file: &Source<'_>,
-    classes: &[u32],
-    listing: Listing,
-    a: u32,
+    same: F,
     m: u32,
-    b: u32,
     n: u32,
+    place: usize,
 ) -> bool
-    ensures { result ≡ Accept.listed (same_listed file.now classes.now listing) a m b n }
+    requires place { place < 15 }
+    requires pre { (f : F) (a : _) (b : _) (j : _) → F.pre f a b j }
+    ensures { ListedBy (F.post same)
+        (Layout.word file.now shapes m place) (Layout.word file.now shapes m (place + 1))
+        (Layout.word file.now shapes n place) (Layout.word file.now shapes n (place + 1)) result }
 {
-    if m != n {
+    let a = file.word(SHAPES, m, place);
+    let many = file.word(SHAPES, m, place + 1);
+    let b = file.word(SHAPES, n, place);
+    let others = file.word(SHAPES, n, place + 1);
+    if many != others {
         return false;
     }
-    (0..m).all(|j| same_listed(file, classes, listing, a, b, j))
+    (0..many).all(|j| same(a, b, j))
 }

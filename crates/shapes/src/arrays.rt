@@ -11,6 +11,7 @@ use records::source::Source;
 const MOST_ELEMENTS: u64 = 65536;
 
 // How many elements dimension `first + j` counts; 0 where it ends before it starts.
+#[tactic(auto, using(crate::proofs::Multiplying::spans))]
 pub fn dimension_span(file: &Source<'_>, first: u32, j: u32) -> u64
     ensures is { result ≡ dimension_span file.now (first + j) }
     ensures small { result ≤ 2 ^ 32 }

@@ -13,6 +13,7 @@ use definition::layout::SHAPES;
 use records::file::File;
 
 // Bottom up: shapes point only lower, so a shape is compared through classes that stand already.
+#[tactic(auto, using(crate::proofs::Classing::filling))]
 pub fn shape_classes(file: &File<'_>, words: &mut [u32])
     requires { Layout.count file.now.source shapes ≤ length words.old }
     ensures { words.new ≡ classes_of file.now.source ++ drop (Layout.count file.now.source shapes) words.old }

@@ -37,12 +37,13 @@ fn key_of(file: &Source<'_>, n: u32) -> u64
     }
 }
 
-#[tactic(auto, using(records::proofs::Filling::filling))]
+#[tactic(auto, using(crate::proofs::Filling::filling))]
 pub fn fill_keys(file: &Source<'_>, many: u32, keys: &mut [u64])
     requires { many ≤ length keys.old }
     ensures { Filled (key_of file.now) many keys.old keys.new }
 {
-    for n in 0..many {
-        keys[n as usize] = key_of(file, n);
+    let wanted = &mut keys[..many as usize];
+    for (n, key) in wanted.iter_mut().enumerate() {
+        *key = key_of(file, n as u32);
     }
 }

@@ -4,11 +4,11 @@
 ghost use Rattle.std.specs.Prelude.{◌≡◌, true, ◌+◌, ◌<◌, ◌≤◌, eqb};
 ghost use Rattle.definition.specs.Layout as Layout;
 ghost use Rattle.definition.specs.Layout.{shapes};
-ghost use Rattle.definition.specs.Accept.{listed, same_integer, shapes_like};
-ghost use Rattle.shapes.specs.Alike.{same_in, same_listed, like_at, told_by_first, words_like, members_like, array_like, first_like};
+ghost use Rattle.definition.specs.Accept.{same_integer, shapes_like};
+ghost use Rattle.shapes.specs.Alike.{same_in, like_at, told_by_first, words_like, members_like, array_like, first_like};
 
-use crate::alike::{Listing, same_in, same_link, same_run};
-use definition::layout::{CONSTANTS, SHAPES};
+use crate::alike::{same_dimension, same_field, same_in, same_link, same_run_word, same_runs};
+use definition::layout::{CONSTANTS, MEMBERS, SHAPES};
 use records::source::Source;
 
 // Word `place` is the same in two records of a section.
@@ -29,27 +29,6 @@ fn same_inside(file: &Source<'_>, classes: &[u32], m: u32, n: u32, place: usize)
         file.word(SHAPES, m, place),
         file.word(SHAPES, n, place),
     )
-}
-
-// The runs at word `place` of two shapes list the same.
-fn same_runs(
-    file: &Source<'_>,
-    classes: &[u32],
-    listing: Listing,
-    m: u32,
-    n: u32,
-    place: usize,
-) -> bool
-    requires { place < 15 }
-    ensures { result ≡ listed (same_listed file.now classes.now listing)
-        (Layout.word file.now shapes m place) (Layout.word file.now shapes m (place + 1))
-        (Layout.word file.now shapes n place) (Layout.word file.now shapes n (place + 1)) }
-{
-    let a = file.word(SHAPES, m, place);
-    let many = file.word(SHAPES, m, place + 1);
-    let b = file.word(SHAPES, n, place);
-    let others = file.word(SHAPES, n, place + 1);
-    same_run(file, classes, listing, a, many, b, others)
 }
 
 // Two integer constants have one value: those at word `place` of two subranges.
@@ -75,10 +54,16 @@ fn members_like(file: &Source<'_>, classes: &[u32], enumerated: bool, m: u32, n:
     if !same_word(file, SHAPES, m, n, 3) {
         return false;
     }
-    same_runs(file, classes, Listing::Members, m, n, 1)
+    same_runs(
+        file,
+        |a, b, j| same_run_word(file, MEMBERS, a, b, j, 0),
+        m,
+        n,
+        1,
+    )
 }
 
-#[tactic(auto, using(crate::proofs::Comparing::comparing), unfolding(crate::specs::Alike::like_at, crate::specs::Alike::members_like, crate::specs::Alike::same_listed, definition::specs::Accept::like_by, definition::specs::Records::shape_of))]
+#[tactic(auto, using(crate::proofs::Comparing::comparing), unfolding(crate::specs::Alike::like_at, crate::specs::Alike::members_like, definition::specs::Accept::like_by, definition::specs::Records::shape_of))]
 fn enumeration_like(file: &Source<'_>, classes: &[u32], enumerated: bool, m: u32, n: u32) -> bool
     ensures { result ≡ like_at file.now classes.now enumerated 10 m n }
 {
@@ -93,7 +78,7 @@ fn array_like(file: &Source<'_>, classes: &[u32], m: u32, n: u32) -> bool
     if !same_inside(file, classes, m, n, 1) {
         return false;
     }
-    same_runs(file, classes, Listing::Dimensions, m, n, 2)
+    same_runs(file, |a, b, j| same_dimension(file, a, b, j), m, n, 2)
 }
 
 #[tactic(auto, using(crate::proofs::Comparing::comparing), unfolding(crate::specs::Alike::like_at, definition::specs::Accept::like_by, definition::specs::Records::shape_of))]
@@ -104,7 +89,7 @@ fn subrange_like(file: &Source<'_>, classes: &[u32], m: u32, n: u32) -> bool
 }
 
 // Shapes m and n of one kind whose words lead on: to runs, shapes or constants.
-#[tactic(auto, using(crate::proofs::Comparing::comparing), unfolding(crate::specs::Alike::array_like, crate::specs::Alike::like_at, crate::specs::Alike::same_listed, definition::specs::Accept::like_by, definition::specs::Records::shape_of))]
+#[tactic(auto, using(crate::proofs::Comparing::comparing), unfolding(crate::specs::Alike::array_like, crate::specs::Alike::like_at, definition::specs::Accept::like_by, definition::specs::Records::shape_of))]
 fn inside_like(
     file: &Source<'_>,
     classes: &[u32],
@@ -118,7 +103,7 @@ fn inside_like(
 {
     match kind {
         10 => enumeration_like(file, classes, enumerated, m, n),
-        11 => same_runs(file, classes, Listing::Fields, m, n, 1),
+        11 => same_runs(file, |a, b, j| same_field(file, classes, a, b, j), m, n, 1),
         12 => array_like(file, classes, m, n),
         _ => subrange_like(file, classes, m, n),
     }

@@ -1,5 +1,5 @@
 -- What is built for a line from the file and the sheet's own type lines, and that the line is compared with it. Assumes nothing.
-use mathlib.Core.Path.{◌≡◌, sym, subst, ◌∙◌}
+use mathlib.Core.Path.{◌≡◌, refl, sym, subst, ◌∙◌}
 use mathlib.Core.Bool.{Bool, true, false, ◌&&◌}
 use mathlib.Core.List.{List}
 use Prim.Native.Nat.{ℕ, ◌+◌, ◌^◌, ◌≤◌, ◌<◌}
@@ -22,7 +22,7 @@ use Rattle.laws.specs.Values.{Small}
 use Rattle.laws.specs.Peeking.{look-to}
 use Rattle.laws.specs.Falling.{declaration-asks}
 use Rattle.laws.specs.Demand.{falls}
-use Rattle.build.specs.declared.built.Built.{Built}
+use Rattle.build.specs.Built.{Built}
 use Rattle.build.specs.Built.{Gives, Memory, Builds, Ready}
 use Rattle.driver.specs.Told.{Tells}
 use Rattle.driver.proofs.Tabling.{front_same}
@@ -119,12 +119,12 @@ module _ {f known s : List ℕ} {room : ℕ} (x : Checks f known s room) where
         unfolding variable_at
         variable-is = z.says (look (said_by s) (declaration f v)) variable-tells
 
-        pub variable-stops : p ≡ false → (from stop : ℕ) → false ≡ variable_at f s v at end && completed_at f s v from stop
-        variable-stops e from stop = rw (sym variable-is ∙ e)
-
         completed-is : {from stop : ℕ} {r : Bool} → SameCompleted f v s from stop b new r → r ≡ completed_at f s v from stop
         unfolding completed_at
         completed-is w = w.says (look (said_by s) (declaration f v)) variable-tells
+
+        pub variable-stops : p ≡ false → (from stop : ℕ) → p ≡ variable_at f s v at end && completed_at f s v from stop
+        variable-stops e from stop = e ∙ rw (sym variable-is ∙ e) refl
 
         pub variable-says : p ≡ true → {from stop : ℕ} {r : Bool} → SameCompleted f v s from stop b new r → r ≡ variable_at f s v at end && completed_at f s v from stop
         variable-says e w = rw (sym variable-is ∙ e) (completed-is w)

@@ -7,7 +7,7 @@ use Rattle.definition.specs.Lines.{outcome_words, completed_words}
 use Rattle.definition.specs.Sheet.{same_words}
 use Rattle.laws.specs.Asks.{OnOk}
 use Rattle.laws.specs.Values.{Small}
-use Rattle.build.specs.declared.built.Built.{Built}
+use Rattle.build.specs.Built.{Built}
 use Rattle.driver.specs.Told.{Tells}
 
 -- an outcome whose tree is small is told

@@ -46,13 +46,10 @@ fn compared(
     requires { Checks file.now.source known.now sheet.now (length room.old) × Comparable file.now.source sheet.now lines (index_in known.now) }
     ensures { pass_code (check_says result) ≡ check_answer file.now.source sheet.now }
 {
-    if !types_right(file, known, sheet, room) {
-        return Err(Refusal::Lines);
+    if types_right(file, known, sheet, room) && variables_right(file, known, sheet, lines, room) {
+        return Ok(());
     }
-    if !variables_right(file, known, sheet, lines, room) {
-        return Err(Refusal::Lines);
-    }
-    Ok(())
+    Err(Refusal::Lines)
 }
 
 // Refusals 11 to 13 of an accepted file's sheet, with the shape classes in the tables.

@@ -5,26 +5,28 @@ ghost use Rattle.std.specs.Prelude.{length};
 ghost use Rattle.sheet_lines.specs.Compare.{Within};
 ghost use Rattle.sheet.specs.Same.{Shown, SameOutcome, SameCompleted};
 
-use build::built::Built;
-use complete::answer::Completion;
+use build::built::Unbuilt;
 use complete::completion::completion;
 use definition::layout::NODE_WORDS;
 use records::source::Source;
 use sheet_lines::compare::{completed_same, outcome_same};
 
 // Whether words of a sheet are the state, the count and the nodes of what was built: a type's line behind its rank, or a variable's.
-pub fn built_same(sheet: &[u32], at: usize, end: usize, built: Built, room: &[u32]) -> bool
+pub fn built_same(
+    sheet: &[u32],
+    at: usize,
+    end: usize,
+    built: Result<usize, Unbuilt>,
+    room: &[u32],
+) -> bool
     requires { Within (length sheet.now) at 2 end × Shown built room.now }
     ensures { SameOutcome sheet.now at end built room.now result }
 {
     match built {
-        Built::Ends(e) => {
-            let nodes = (e / NODE_WORDS) as u32;
-            outcome_same(sheet, at, end, 0, nodes, room)
-        }
-        Built::None => outcome_same(sheet, at, end, 1, 0, room),
-        Built::TooLarge => outcome_same(sheet, at, end, 2, 0, room),
-        Built::Wanted(_) => false,
+        Ok(e) => outcome_same(sheet, at, end, 0, (e / NODE_WORDS) as u32, room),
+        Err(Unbuilt::None) => outcome_same(sheet, at, end, 1, 0, room),
+        Err(Unbuilt::TooLarge) => outcome_same(sheet, at, end, 2, 0, room),
+        Err(Unbuilt::Wanted(_)) => false,
     }
 }
 
@@ -36,24 +38,20 @@ pub fn completion_same(
     sheet: &[u32],
     at: usize,
     end: usize,
-    built: Built,
+    built: Result<usize, Unbuilt>,
     room: &mut [u32],
 ) -> bool
     requires { Within (length sheet.now) at 3 end × Shown built room.old }
     ensures { SameCompleted file.now v sheet.now at end built room.old result }
 {
-    match built {
-        Built::Ends(e) => {
+    let Ok(e) = built else {
+        return completed_same(sheet, at, end, 1, 0, 0, &room[..]);
+    };
+    match completion(file, v, room, 0, e) {
+        Some(kind) => {
             let nodes = (e / NODE_WORDS) as u32;
-            match completion(file, v, room, 0, e) {
-                Completion::Completed(kind) => {
-                    completed_same(sheet, at, end, 0, kind, nodes, &room[..])
-                }
-                Completion::Left => completed_same(sheet, at, end, 1, 0, 0, &room[..]),
-            }
+            completed_same(sheet, at, end, 0, kind, nodes, &room[..])
         }
-        Built::None => completed_same(sheet, at, end, 1, 0, 0, &room[..]),
-        Built::TooLarge => completed_same(sheet, at, end, 1, 0, 0, &room[..]),
-        Built::Wanted(_) => false,
+        None => completed_same(sheet, at, end, 1, 0, 0, &room[..]),
     }
 }

@@ -35,10 +35,8 @@ fn variable_same(
     ensures { result ≡ variable_at file.now.source sheet.now v at end && completed_at file.now.source sheet.now v from stop }
 {
     let built = variable(file, known, sheet, v, room);
-    if !built_same(sheet, at, end, built, &room[..]) {
-        return false;
-    }
-    completion_same(&file.source, v, sheet, from, stop, built, room)
+    built_same(sheet, at, end, built, &room[..])
+        && completion_same(&file.source, v, sheet, from, stop, built, room)
 }
 
 // `lines`: where the counts of the two sections stand.

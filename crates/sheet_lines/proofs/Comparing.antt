@@ -1,19 +1,20 @@
 -- Words compared one after the other. Assumes nothing.
-use mathlib.Core.Path.{◌≡◌, refl, ap, ap₂, sym, ◌∙◌}
+use mathlib.Core.Path.{◌≡◌, refl, ap, ◌∙◌}
 use mathlib.Core.Bool.{Bool, true, false, ◌&&◌}
-use mathlib.Core.List.{List, ◌∷◌}
+use mathlib.Core.List.{List, [], ◌∷◌}
 use Prim.Native.Nat.{ℕ, suc, ◌+◌, ◌-◌, ◌*◌, ◌^◌, ◌≤◌, ◌<◌}
 use native.Mathlib.Omega.{arith}
-use native.Mathlib.Nat.{add-zero}
 use lib.Dec.{eqb}
-use lib.ListN.{length, get_or, take}
-use lib.Seq.{slice, slice-cons, slice_empty, length-slice, length-take-le}
+use lib.Pointwise.{pointwise}
+use lib.ListN.{length, get_or, take, drop}
+use lib.Seq.{slice, slice-cons, length-slice, length-take-le}
 use borrow.Author.Rules.{rules}
 use borrow.Author.Tests.{eq-eqb, ne_eqb}
 use mir.Syntax.{w64}
 use mir.Val.{Fits}
 use Rattle.definition.specs.Sheet.{same_words}
 use Rattle.laws.specs.Passing.{same-words}
+use Rattle.tree.proofs.Stands.{take-drop}
 use Rattle.sheet_lines.specs.Compare.{Beside, NodesBeside}
 
 -- words of other lengths are not the same
@@ -24,41 +25,20 @@ same-long v w n = go (same_words v w) refl
     go true q = absurd (n (ap length (same-words v w q)))
     go false q = refl
 
--- ---- the loop: what is left comes to what the whole comes to
-pub record Comparing (a : List ℕ) (at : ℕ) (b : List ℕ) (many i : ℕ) : Type 0 where
-  pub beside : Beside (length a) at (length b) many
-  pub most : i ≤ many
-  pub same : same_words (slice (at + i) (at + many) a) (slice i many b) ≡ same_words (slice at (at + many) a) (take many b)
+-- ---- `==` of slices
+same-pairs : (v w : List ℕ) → pointwise eqb v w ≡ same_words v w
+unfolding same_words
+same-pairs [] [] = refl
+same-pairs [] (y ∷ w) = refl
+same-pairs (x ∷ v) [] = refl
+same-pairs (x ∷ v) (y ∷ w) = ap (λ (b : Bool). eqb x y && b) (same-pairs v w)
 
-pub compare-starts : {a : List ℕ} {at : ℕ} {b : List ℕ} {many : ℕ} → Beside (length a) at (length b) many → Comparing a at b many 0
-compare-starts {at = at} x = record { beside = x; most = omega arith; same = rw (add-zero at) }
+pub compared : (at many : ℕ) (a b : List ℕ) {r : Bool} → r ≡ pointwise eqb (take (at + many - at) (drop at a)) (take many b) → r ≡ same_words (slice at (at + many) a) (take many b)
+compared at many a b e =
+    let k : at + many - at ≡ many = omega arith in
+    e ∙ same-pairs (take (at + many - at) (drop at a)) (take many b) ∙ ap (λ (v : List ℕ). same_words v (take many b)) (ap (λ (n : ℕ). take n (drop at a)) k ∙ take-drop at many a)
 
-module _ {a : List ℕ} {at : ℕ} {b : List ℕ} {many i : ℕ} (x : Comparing a at b many i) where
-  pub compare-ends : many ≤ i → true ≡ same_words (slice at (at + many) a) (take many b)
-  unfolding same_words
-  compare-ends h =
-      let e : i ≡ many = omega (arith, x.most) in
-      let w : same_words (slice (at + many) (at + many) a) (slice many many b) ≡ same_words (slice at (at + many) a) (take many b) = rw e at x.same in
-      rw (slice_empty (at + many) a, slice_empty many b) at w
-
-  module _ (h : i < many) where
-    next : same_words (slice (at + i) (at + many) a) (slice i many b)
-        ≡ eqb (get_or a (at + i) 0) (get_or b i 0) && same_words (slice (at + (i + 1)) (at + many) a) (slice (i + 1) many b)
-    unfolding same_words
-    next =
-        let p : slice (at + i) (at + many) a ≡ get_or a (at + i) 0 ∷ slice (suc (at + i)) (at + many) a = slice-cons (at + i) (at + many) a 0 (omega arith) x.beside.here in
-        let q : slice i many b ≡ get_or b i 0 ∷ slice (suc i) many b = slice-cons i many b 0 (omega arith) x.beside.there in
-        let m : suc (at + i) ≡ at + (i + 1) = omega arith in
-        let n : suc i ≡ i + 1 = omega arith in
-        ap₂ same_words p q ∙ ap₂ (λ (j k : ℕ). eqb (get_or a (at + i) 0) (get_or b i 0) && same_words (slice j (at + many) a) (slice k many b)) m n
-
-    pub compare-on : get_or a (at + i) 0 ≡ get_or b i 0 → Comparing a at b many (i + 1)
-    compare-on e = record { beside = x.beside; most = omega arith; same = rw (eq-eqb (get_or a (at + i) 0) (get_or b i 0) e) at (sym next ∙ x.same) }
-
-    pub compare-stops : (get_or a (at + i) 0 ≡ get_or b i 0 → ⊥) → false ≡ same_words (slice at (at + many) a) (take many b)
-    compare-stops n = rw (ne_eqb (get_or a (at + i) 0) (get_or b i 0) n) at (sym next ∙ x.same)
-
-pub ruleset comparing = (rules, compare-starts, compare-ends, compare-on, compare-stops)
+pub ruleset comparing = (rules, compared)
 
 -- ---- heads
 module _ (s : List ℕ) (at end : ℕ) (w : List ℕ) (h : at < end) (l : end ≤ length s) where

@@ -23,10 +23,8 @@ use Rattle.tree.specs.Part.{on_end}
 use Rattle.sheet_lines.specs.declared.ends.Form.{Form}
 use Rattle.sheet_lines.specs.declared.ends.Form.TheVariants.{Types, Variables, Completed}
 use Rattle.sheet_lines.specs.declared.find.Lines.{Lines}
-use Rattle.sheet_lines.specs.declared.index.Kept.{Kept}
-use Rattle.sheet_lines.specs.declared.index.Kept.TheVariants.{Places, Ranks}
 use Rattle.sheet_lines.specs.Ends.{head_words, line_end, lines_end, line_at, section_end}
-use Rattle.sheet_lines.specs.Index.{most_places, kept_word, kept_at}
+use Rattle.sheet_lines.specs.Index.{most_places, place_of, rank_of}
 use Rattle.sheet_lines.specs.There.{is_end}
 use Rattle.sheet_lines.specs.Found.{lines, last_of, variables_of, found_of}
 use Rattle.sheet_lines.specs.Read.{lines_in, sheet_at}
@@ -142,11 +140,11 @@ ends_is q = rw q
 pub filled-wide : {g : ℕ → ℕ} {n : ℕ} {lent index : List ℕ} → Filled g n lent index → n ≤ length index
 filled-wide {g} {n} {lent} x = rw (x.is, length-append (table_of g n) (drop n lent)) (omega (arith, table-length g n))
 
-pub index_word : (kept : Kept) (s : List ℕ) {n : ℕ} {lent index : List ℕ} → Filled (kept_at kept s) n lent index → (t : ℕ) → t < n → get_or index t 0 ≡ kept_at kept s t
-index_word kept s {n} {lent} g t l =
+pub index_word : (word : ℕ → ℕ) {n : ℕ} {lent index : List ℕ} → Filled word n lent index → (t : ℕ) → t < n → get_or index t 0 ≡ word t
+index_word word {n} {lent} g t l =
     ap (λ (w : List ℕ). get_or w t 0) g.is
-    ∙ get_or-append (table_of (kept_at kept s) n) (drop n lent) 0 t (omega (arith, table-length (kept_at kept s) n))
-    ∙ table_at (kept_at kept s) n t 0 l
+    ∙ get_or-append (table_of word n) (drop n lent) 0 t (omega (arith, table-length word n))
+    ∙ table_at word n t 0 l
 
 -- ---- the lines of a sheet that was found
 module _ {f s : List ℕ} {v c : ℕ} (x : FoundAt f s v c) where
@@ -186,10 +184,9 @@ module _ {f s : List ℕ} {v c : ℕ} (x : FoundAt f s v c) where
 
   -- ---- places
   -- a word for each place, where the sheet is not longer than a word can say
-  pub index-place : {lent index : List ℕ} → Filled (kept_at Places s) (count f types) lent index → length s ≤ most_places → (t : ℕ) → t < count f types
+  pub index-place : {lent index : List ℕ} → Filled (place_of s) (count f types) lent index → length s ≤ most_places → (t : ℕ) → t < count f types
       → get_or index t 0 ≡ line_at Types s 1 t + 2
-  unfolding kept_word kept_at
-  index-place g h t l = index_word Places s g t l ∙ sym (place-near (line_at Types s 1 t) (omega (arith, place_inside t l)))
+  index-place g h t l = index_word (place_of s) g t l ∙ sym (place-near (line_at Types s 1 t) (omega (arith, place_inside t l)))
 
 -- ---- refusal 12
 -- ranks that agree on the types of a file rise alike
@@ -210,12 +207,12 @@ inside : {f : List ℕ} → Accepted f → Inside (count f types) (uses f)
 inside {f} a = record { inside = λ t l. uses-inside f a t l }
 
 -- the ranks of a sheet that was read are those of its lines
-pub rise-by-lines : {f s : List ℕ} → Accepted f → {v c : ℕ} → FoundAt f s v c → rising (count f types) (uses f) (kept_at Ranks s) ≡ ranks_rise f (sheet_at f s v c)
-unfolding ranks_rise kept_at kept_word
-rise-by-lines {f} {s} a {v} {c} x = rises-same (inside a) (kept_at Ranks s) (sheet_rank (sheet_at f s v c)) (λ t l. sym (sheet-rank x t l))
+pub rise-by-lines : {f s : List ℕ} → Accepted f → {v c : ℕ} → FoundAt f s v c → rising (count f types) (uses f) (rank_of s) ≡ ranks_rise f (sheet_at f s v c)
+unfolding ranks_rise
+rise-by-lines {f} {s} a {v} {c} x = rises-same (inside a) (rank_of s) (sheet_rank (sheet_at f s v c)) (λ t l. sym (sheet-rank x t l))
 
 -- so are those in an index of ranks
-pub rise-by-index : {f : List ℕ} → Accepted f → (s : List ℕ) {lent index : List ℕ} → Filled (kept_at Ranks s) (count f types) lent index
-    → rising (count f types) (uses f) (rank_at index) ≡ rising (count f types) (uses f) (kept_at Ranks s)
+pub rise-by-index : {f : List ℕ} → Accepted f → (s : List ℕ) {lent index : List ℕ} → Filled (rank_of s) (count f types) lent index
+    → rising (count f types) (uses f) (rank_at index) ≡ rising (count f types) (uses f) (rank_of s)
 unfolding rank_at
-rise-by-index {f} a s {index = index} g = rises-same (inside a) (rank_at index) (kept_at Ranks s) (λ t l. index_word Ranks s g t l)
+rise-by-index {f} a s {index = index} g = rises-same (inside a) (rank_at index) (rank_of s) (λ t l. index_word (rank_of s) g t l)

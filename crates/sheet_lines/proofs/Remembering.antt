@@ -30,9 +30,8 @@ use Rattle.tree.specs.Extent.{tree_of}
 use Rattle.tree.specs.Words.{Stand}
 use Rattle.tree.proofs.Stands.{take-drop, stand-append}
 use Rattle.sheet_lines.specs.declared.ends.Form.TheVariants.{Types}
-use Rattle.sheet_lines.specs.declared.index.Kept.TheVariants.{Places}
 use Rattle.sheet_lines.specs.Ends.{head_words, state_at, empty_head, nodes_end, head_end, line_end, line_at}
-use Rattle.sheet_lines.specs.Index.{most_places, kept_at}
+use Rattle.sheet_lines.specs.Index.{most_places, place_of}
 use Rattle.sheet_lines.specs.Said.{tree_by, read_tree, said_at, said_by}
 use Rattle.sheet_lines.specs.Small.{small_line, small_at}
 use Rattle.sheet_lines.proofs.Ending.{tree-within}
@@ -217,7 +216,7 @@ module _ {f s : List ℕ} {v c : ℕ} (x : FoundAt f s v c) where
   unfolding small_at
   said-small e t l = (said-line t l).small (every_true (small_at s) (count f types) e t l)
 
-  pub sheet-remembers : {lent index : List ℕ} → Filled (kept_at Places s) (count f types) lent index → length s ≤ most_places
+  pub sheet-remembers : {lent index : List ℕ} → Filled (place_of s) (count f types) lent index → length s ≤ most_places
       → every (small_at s) (count f types) ≡ true → Remembers index s (length s) (sheet_memo s (count f types))
   sheet-remembers {lent} {index} g h e =
       record {

@@ -4,7 +4,7 @@ use mathlib.Core.Bool.{Bool, true, false}
 use mathlib.Core.List.{List}
 use Prim.Native.Nat.{ℕ, ◌≤◌, ◌<◌}
 use native.Mathlib.Omega.{arith}
-use lib.ListN.{length}
+use lib.ListN.{length, get_or}
 use borrow.Author.Rules.{rules}
 use borrow.Author.Tests.{not-true, not-false}
 use Rattle.definition.specs.Base.{every}
@@ -14,16 +14,14 @@ use Rattle.definition.specs.Sheet.{ranks_rise}
 use Rattle.definition.specs.Uses.{uses, rising}
 use Rattle.laws.specs.Accepted.{accepted}
 use Rattle.lines.specs.Memory.{Remembers}
-use Rattle.records.specs.Tables.{Filled}
 use Rattle.ranks.specs.Above.{rank_in}
 use Rattle.sheet_lines.specs.declared.ends.Form.TheVariants.{Types}
 use Rattle.sheet_lines.specs.declared.find.Lines.{Lines}
-use Rattle.sheet_lines.specs.declared.index.Kept.TheVariants.{Places, Ranks}
 use Rattle.definition.specs.declared.answers.Refusal.TheVariants as refusal
 use Rattle.definition.specs.Answers.{number_of}
 use Rattle.std.specs.Prelude.{Option, Some, None, Ok, Err}
 use Rattle.sheet_lines.specs.Found.{found_of}
-use Rattle.sheet_lines.specs.Index.{kept_at}
+use Rattle.sheet_lines.specs.Index.{place_word, rank_of, IndexedBy}
 use Rattle.sheet_lines.specs.Judged.{judged}
 use Rattle.sheet_lines.specs.Read.{sheet_at}
 use Rattle.sheet_lines.specs.Small.{small_at}
@@ -42,9 +40,10 @@ module _ {f s : List ℕ} {many n : ℕ} (x : Lined f s many n) where
   pub lined-room : {m : ℕ} → m ≡ n → many ≤ m
   lined-room e = omega (arith, x.room)
 
-  pub lined-rise : verdict f ≡ 0 → {lent index : List ℕ} → Filled (kept_at Ranks s) many lent index → {r : Bool}
-      → r ≡ rising (count f types) (uses f) (rank_in index) → r ≡ rising (count f types) (uses f) (kept_at Ranks s)
-  lined-rise e g q = q ∙ rise-by-index (accepted f e) s (rw x.all at g)
+  pub lined-rise : verdict f ≡ 0 → {answers : ℕ → ℕ → Type 0} {lent index : List ℕ} → IndexedBy answers s many lent index
+      → ((at w : ℕ) → answers at w → w ≡ get_or s at 0) → {r : Bool}
+      → r ≡ rising (count f types) (uses f) (rank_in index) → r ≡ rising (count f types) (uses f) (rank_of s)
+  lined-rise e g h q = q ∙ rise-by-index (accepted f e) s (rw x.all at (g.is (λ at. get_or s at 0) h))
 
 pub ruleset rising_laws = (rules, lined-there, lined-room, lined-rise)
 
@@ -68,7 +67,7 @@ module _ (f s : List ℕ) (e : verdict f ≡ 0) {w : Option Lines} (o : w ≡ fo
     pub found-there : {n : ℕ} → n ≡ count f types → LinesThere Types s n 1
     found-there p = (found-lined p {k = count f types} (omega arith)).there
 
-    module _ {b : Bool} (q : b ≡ rising (count f types) (uses f) (kept_at Ranks s)) where
+    module _ {b : Bool} (q : b ≡ rising (count f types) (uses f) (rank_of s)) where
       rise-is : b ≡ ranks_rise f (sheet_at f s x.variables x.completed)
       rise-is = q ∙ rise-by-lines (accepted f e) (found_at f s x there)
 
@@ -92,10 +91,12 @@ module _ (f s : List ℕ) (e : verdict f ≡ 0) {w : Option Lines} (o : w ≡ fo
           unfolding number_of
           tests_large z = record { says = check-lines f s e there rises (small-judged f s x.variables x.completed (sym small_is ∙ z)) }
 
-          pub tests-comparable : d ≡ true → {index new : List ℕ} → Filled (kept_at Places s) n index new → Tests f s (Ok x) new
-          tests-comparable z {index} g =
+          pub tests-comparable : d ≡ true → {answers : ℕ → ℕ → Type 0} {index new : List ℕ} → IndexedBy answers s n index new
+              → ((at w : ℕ) → answers at w → w ≡ place_word at) → Tests f s (Ok x) new
+          tests-comparable z {answers = answers} {index = index} {new = new} g a =
+              let i : IndexedBy answers s (count f types) index new = rw k at g in
               record {
-                says = record { found = there; rises = rises; small = sym small_is ∙ z; short = omega arith; lent = index; filled = rw k at g };
+                says = record { found = there; rises = rises; small = sym small_is ∙ z; short = omega arith; lent = index; filled = i.is place_word a };
               }
 
 pub types-room : (f : List ℕ) {m n k : ℕ} → n ≡ count f types → count f types ≤ k → m ≡ k → n ≤ m

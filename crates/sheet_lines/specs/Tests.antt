@@ -8,9 +8,8 @@ use Rattle.definition.specs.Sheet.{ranks_rise, check_answer}
 use Rattle.records.specs.Tables.{Filled}
 use Rattle.sheet_lines.specs.declared.ends.Form.TheVariants.{Types}
 use Rattle.sheet_lines.specs.declared.find.Lines.{Lines}
-use Rattle.sheet_lines.specs.declared.index.Kept.TheVariants.{Places}
 use Rattle.sheet_lines.specs.Found.{found_of}
-use Rattle.sheet_lines.specs.Index.{most_places, kept_at}
+use Rattle.sheet_lines.specs.Index.{most_places, place_of}
 use Rattle.sheet_lines.specs.Read.{sheet_at}
 use Rattle.sheet_lines.specs.Small.{small_at}
 use Rattle.sheet_lines.specs.There.{LinesThere}
@@ -28,7 +27,7 @@ pub record Comparable (f s : List ℕ) (x : Lines) (index : List ℕ) : Type 0 w
   pub small : every (small_at s) (count f types) ≡ true
   pub short : length s ≤ most_places
   pub lent : List ℕ
-  pub filled : Filled (kept_at Places s) (count f types) lent index
+  pub filled : Filled (place_of s) (count f types) lent index
 
 -- a refusal is the check's answer
 abbrev pub TestsTo : List ℕ → List ℕ → Result Lines Refusal → List ℕ → Type 0

@@ -14,12 +14,7 @@ pub fn words_same(a: &[u32], at: usize, b: &[u32], many: usize) -> bool
     requires { Beside (length a.now) at (length b.now) many }
     ensures { result ≡ same_words (slice at (at + many) a.now) (take many b.now) }
 {
-    for i in 0..many {
-        if a[at + i] != b[i] {
-            return false;
-        }
-    }
-    true
+    a[at..at + many] == b[..many]
 }
 
 // Whether words from a place to an end are a count and so many nodes at the front of other words.

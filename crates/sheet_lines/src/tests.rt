@@ -5,17 +5,17 @@ ghost use Rattle.std.specs.Prelude.{◌≡◌, ◌≤◌, length};
 ghost use Rattle.definition.specs.Accept.{verdict};
 ghost use Rattle.definition.specs.Layout as Layout;
 ghost use Rattle.definition.specs.Uses.{uses, rising};
-ghost use Rattle.sheet_lines.specs.declared.index.Kept.TheVariants as kept;
-ghost use Rattle.sheet_lines.specs.Index.{kept_at};
+ghost use Rattle.sheet_lines.specs.Index.{rank_of};
 ghost use Rattle.sheet_lines.specs.Tests.{Lined, Tests};
 
 use crate::find::{Lines, find_lines};
-use crate::index::{Kept, index_lines};
+use crate::index::{index_lines, place_word};
 use crate::small::types_small;
 use definition::answers::Refusal;
 use definition::layout::TYPES;
 use ranks::rises::ranks_rise;
 use records::file::File;
+use records::words::word_at;
 
 // No sheet that passes has more words.
 const MOST_SHEET_WORDS: usize = 113280000;
@@ -24,9 +24,9 @@ const MOST_SHEET_WORDS: usize = 113280000;
 #[tactic(auto, using(crate::proofs::Testing::rising_laws))]
 fn lines_rise(file: &File<'_>, sheet: &[u32], types: u32, index: &mut [u32]) -> bool
     requires { (verdict file.now.source ≡ 0) × Lined file.now.source sheet.now types (length index.old) }
-    ensures { result ≡ rising (Layout.count file.now.source Layout.types) (uses file.now.source) (kept_at kept.Ranks sheet.now) }
+    ensures { result ≡ rising (Layout.count file.now.source Layout.types) (uses file.now.source) (rank_of sheet.now) }
 {
-    index_lines(sheet, Kept::Ranks, types, index);
+    index_lines(sheet, |at| word_at(sheet, at), types, index);
     ranks_rise(&file.source, &index[..])
 }
 
@@ -48,6 +48,6 @@ pub fn test_sheet(file: &File<'_>, sheet: &[u32], index: &mut [u32]) -> Result<L
     if !types_small(sheet, types) {
         return Err(Refusal::Lines);
     }
-    index_lines(sheet, Kept::Places, types, index);
+    index_lines(sheet, place_word, types, index);
     Ok(lines)
 }

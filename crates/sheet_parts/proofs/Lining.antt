@@ -6,6 +6,7 @@ use native.Mathlib.Omega.{arith}
 use lib.ListN.{length}
 use lib.Seq.{slice, length-slice}
 use borrow.Author.Rules.{rules}
+use Rattle.std.specs.Prelude.{Ok, Err}
 use Rattle.definition.specs.Tree as trees
 use Rattle.definition.specs.Ask.{ok, none, large, Outcome}
 use Rattle.definition.specs.Resolve.{known}
@@ -14,41 +15,44 @@ use Rattle.laws.specs.Asks.{OnOk}
 use Rattle.laws.specs.Values.{Small}
 use Rattle.laws.specs.Whole.{flatten-length}
 use Rattle.tree.specs.Words.{Stand}
-use Rattle.lines.specs.declared.look.Remembered.{Remembered}
-use Rattle.lines.specs.declared.look.Remembered.TheVariants as look
+use Rattle.lines.specs.declared.look.Tree.{Tree}
+use Rattle.lines.specs.declared.look.Absent.TheVariants as absent
+use Rattle.lines.specs.Look.{Remembered}
 use Rattle.lines.specs.Memory.{Looks}
-use Rattle.build.specs.declared.built.Built.{Built}
-use Rattle.build.specs.declared.built.Built.TheVariants as built
+use Rattle.build.specs.Built.{Built}
+use Rattle.build.specs.declared.built.Unbuilt.{Unbuilt}
+use Rattle.build.specs.declared.built.Unbuilt.TheVariants as unbuilt
 use Rattle.driver.specs.Told.{Tells}
 use Rattle.sheet_parts.specs.declared.line.Line.{Line}
 use Rattle.laws.specs.Puts.{Puts, puts-long, puts_then}
 use Rattle.sheet_parts.specs.Line.{value_in, line_in, Within, LineFits, ValueLies, LineLies, line_of, empty_line, remembered_line, built_line}
+use Rattle.std.specs.Prelude.{Ok, Err}
 
 -- ---- `remembered_line` and `built_line`
 module _ (rank : ℕ) {w : Remembered} {l : Line} where
-  pub line-unknown : w ≡ look.Unknown → l ≡ empty_line rank 1 → l ≡ remembered_line rank w
+  pub line-unknown : w ≡ Err absent.Unknown → l ≡ empty_line rank 1 → l ≡ remembered_line rank w
   line-unknown e i = i ∙ ap (remembered_line rank) (sym e)
 
-  pub line-none : w ≡ look.None → l ≡ empty_line rank 1 → l ≡ remembered_line rank w
+  pub line-none : w ≡ Err absent.None → l ≡ empty_line rank 1 → l ≡ remembered_line rank w
   line-none e i = i ∙ ap (remembered_line rank) (sym e)
 
-  pub line-large : w ≡ look.TooLarge → l ≡ empty_line rank 2 → l ≡ remembered_line rank w
+  pub line-large : w ≡ Err absent.TooLarge → l ≡ empty_line rank 2 → l ≡ remembered_line rank w
   line-large e i = i ∙ ap (remembered_line rank) (sym e)
 
-pub line-tree : {w : Remembered} (rank : ℕ) {a n : ℕ} → w ≡ look.Tree a n → line_of rank 0 n a ≡ remembered_line rank w
+pub line-tree : {w : Remembered} (rank : ℕ) {tree : Tree} → w ≡ Ok tree → line_of rank 0 tree.nodes tree.at ≡ remembered_line rank w
 line-tree rank e = ap (remembered_line rank) (sym e)
 
-module _ {w : Built} {l : Line} where
-  pub built-none : w ≡ built.None → l ≡ empty_line 0 1 → l ≡ built_line w
-  built-none e i = i ∙ ap built_line (sym e)
+module _ {w : Built} {l : Line} {u : Unbuilt} (q : w ≡ Err u) where
+  pub built-none : u ≡ unbuilt.None → l ≡ empty_line 0 1 → l ≡ built_line w
+  built-none e i = let k : w ≡ Err unbuilt.None = cc in i ∙ ap built_line (sym k)
 
-  pub built-large : w ≡ built.TooLarge → l ≡ empty_line 0 2 → l ≡ built_line w
-  built-large e i = i ∙ ap built_line (sym e)
+  pub built-large : u ≡ unbuilt.TooLarge → l ≡ empty_line 0 2 → l ≡ built_line w
+  built-large e i = let k : w ≡ Err unbuilt.TooLarge = cc in i ∙ ap built_line (sym k)
 
-  pub built-wanted : {d : ℕ} → w ≡ built.Wanted d → l ≡ empty_line 0 1 → l ≡ built_line w
-  built-wanted e i = i ∙ ap built_line (sym e)
+  pub built-wanted : {d : ℕ} → u ≡ unbuilt.Wanted d → l ≡ empty_line 0 1 → l ≡ built_line w
+  built-wanted {d} e i = let k : w ≡ Err (unbuilt.Wanted d) = cc in i ∙ ap built_line (sym k)
 
-pub built-ends : {w : Built} {e : ℕ} → w ≡ built.Ends e → line_of 0 0 (e / 6) 0 ≡ built_line w
+pub built-ends : {w : Built} {e : ℕ} → w ≡ Ok e → line_of 0 0 (e / 6) 0 ≡ built_line w
 built-ends e = ap built_line (sym e)
 
 -- ---- `put_value` and `put_line`
@@ -120,13 +124,13 @@ tree-lies t first state at n from s y =
 -- a remembered outcome
 pub looks-lies : (rank : ℕ) (w : Remembered) (from : List ℕ) (o : Outcome) → Looks w from (known o) → ValueLies (outcome_words o) (remembered_line rank w) from
 unfolding outcome_words
-looks-lies rank look.Unknown from o h = let z : ◌≡◌ {A = ℕ} 0 1 = cc in absurd (omega arith)
-looks-lies rank look.None from o h = let e : o ≡ none = cc in rw e (empty-lies rank 1 from)
-looks-lies rank look.TooLarge from o h = let e : o ≡ large = cc in rw e (empty-lies rank 2 from)
-looks-lies rank (look.Tree at n) from o h =
+looks-lies rank (Err absent.Unknown) from o h = let z : ◌≡◌ {A = ℕ} 0 1 = cc in absurd (omega arith)
+looks-lies rank (Err absent.None) from o h = let e : o ≡ none = cc in rw e (empty-lies rank 1 from)
+looks-lies rank (Err absent.TooLarge) from o h = let e : o ≡ large = cc in rw e (empty-lies rank 2 from)
+looks-lies rank (Ok w) from o h =
     let i = h.is in
     let e : o ≡ ok h.tree = cc in
-    rw e (tree-lies h.tree rank 0 at n from (omega (arith, h.count, h.small.few)) h.stands)
+    rw e (tree-lies h.tree rank 0 w.at w.nodes from (omega (arith, h.count, h.small.few)) h.stands)
 
 -- a built outcome
 pub tells-lies : (w : Built) (room : List ℕ) (o : Outcome) → OnOk Small o → Tells o w room → ValueLies (outcome_words o) (built_line w) room

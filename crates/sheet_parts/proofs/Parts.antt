@@ -5,6 +5,7 @@ use Prim.Native.Nat.{ℕ, ◌+◌, ◌*◌, ◌<◌}
 use native.Mathlib.Omega.{arith}
 use lib.Seq.{slice}
 use borrow.Author.Rules.{rules}
+use Rattle.std.specs.Prelude.{Option, Some, None, Ok, Err}
 use Rattle.definition.specs.Layout.{count, types, variables}
 use Rattle.definition.specs.Tree.{Tree, nodes, flatten}
 use Rattle.definition.specs.Ask.{ok, none, large, Outcome}
@@ -14,13 +15,10 @@ use Rattle.definition.specs.Lines.{outcome_words, completed_words, type_line, va
 use Rattle.laws.specs.Sizes.{variable-small}
 use Rattle.laws.specs.Whole.{flatten-length}
 use Rattle.tree.specs.Words.{Stand}
-use Rattle.lines.specs.declared.look.Remembered.{Remembered}
-use Rattle.lines.specs.declared.look.Remembered.TheVariants as look
-use Rattle.lines.specs.Look.{remembered_of}
-use Rattle.build.specs.declared.built.Built.{Built}
+use Rattle.lines.specs.declared.look.Absent.TheVariants as absent
+use Rattle.lines.specs.Look.{Remembered, remembered_of}
+use Rattle.build.specs.Built.{Built}
 use Rattle.build.specs.Built.{index_in, Builds}
-use Rattle.complete.specs.declared.answer.Completion.{Completion}
-use Rattle.complete.specs.declared.answer.Completion.TheVariants as answer
 use Rattle.complete.specs.Completion.{Completing}
 use Rattle.complete.proofs.Answering.{Takes, answer-takes, answer-leaves}
 use Rattle.sheet_parts.specs.declared.line.Line.{Line}
@@ -33,10 +31,10 @@ pub line-of : (rank : ℕ) {line : Line} {w : Remembered} → line ≡ remembere
 line-of rank e i = e ∙ ap (remembered_line rank) i
 
 first-is : (rank : ℕ) (w : Remembered) → (remembered_line rank w).first ≡ rank
-first-is rank look.Unknown = refl
-first-is rank look.None = refl
-first-is rank look.TooLarge = refl
-first-is rank (look.Tree at n) = refl
+first-is rank (Ok tree) = refl
+first-is rank (Err absent.Unknown) = refl
+first-is rank (Err absent.None) = refl
+first-is rank (Err absent.TooLarge) = refl
 
 module _ {f tables store : List ℕ} (k : Resolved f tables store) where
   pub type-lies : (rank : ℕ → ℕ) (t : ℕ) → t < count f types → {line : Line} → line ≡ remembered_line (rank t) (remembered_of (index_in tables) store t) → LineLies (ranked_line f rank t) line store
@@ -82,7 +80,7 @@ module _ (f : List ℕ) (v : ℕ) {line : Line} {room : List ℕ} (y : ValueLies
   unfolding variable_line completed_line
   other-left e i = rw (lies-other f v (variable_outcome f v) line room y e) (left-lies room i)
 
-  module _ (e : line.state ≡ 0) {end : ℕ} (j : end ≡ line.at + line.nodes * 6) {a : Completion} {new : List ℕ} (d : Completing f v room line.at end a new) where
+  module _ (e : line.state ≡ 0) {end : ℕ} (j : end ≡ line.at + line.nodes * 6) {a : Option ℕ} {new : List ℕ} (d : Completing f v room line.at end a new) where
     there : TreeIn (variable_outcome f v) line room
     unfolding variable_line
     there = lies-tree (variable_outcome f v) line room y e
@@ -90,11 +88,11 @@ module _ (f : List ℕ) (v : ℕ) {line : Line} {room : List ℕ} (y : ValueLies
     stands : Stand room line.at (flatten there.tree) end
     stands = subst (Stand room line.at (flatten there.tree)) (sym j) there.stands
 
-    pub completed-left : a ≡ answer.Left → {r : Line} → r ≡ empty_line 1 0 → LineLies (completed_line f v) r new
+    pub completed-left : a ≡ None → {r : Line} → r ≡ empty_line 1 0 → LineLies (completed_line f v) r new
     unfolding completed_line
     completed-left i q = rw there.is (rw (answer-leaves d there.tree stands i).is (left-lies new q))
 
-    pub completed-done : {kind : ℕ} → a ≡ answer.Completed kind → LineLies (completed_line f v) (line_of 0 kind line.nodes line.at) new
+    pub completed-done : {kind : ℕ} → a ≡ Some kind → LineLies (completed_line f v) (line_of 0 kind line.nodes line.at) new
     unfolding completed_line completed_words
     completed-done {kind} i =
         let x : Takes f v there.tree kind line.at end new = answer-takes d there.tree stands i in

@@ -7,7 +7,7 @@ use Rattle.definition.specs.Resolve.{known}
 use Rattle.definition.specs.Lines.{type_line}
 use Rattle.lines.specs.Look.{remembered_of}
 use Rattle.lines.specs.Memory.{Looks}
-use Rattle.build.specs.declared.built.Built.{Built}
+use Rattle.build.specs.Built.{Built}
 use Rattle.build.specs.Built.{index_in, Builds, Ready}
 use Rattle.driver.specs.Told.{Tells}
 

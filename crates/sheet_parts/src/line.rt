@@ -6,9 +6,9 @@ ghost use Rattle.sheet_parts.specs.Line.{LineFits, value_in, line_in, empty_line
 ghost use Rattle.laws.specs.Puts.{Puts};
 
 use crate::put::{put_nodes, put_word};
-use build::built::Built;
+use build::built::Unbuilt;
 use definition::layout::NODE_WORDS;
-use lines::look::Remembered;
+use lines::look::{Absent, Tree};
 
 // `first` is a type's rank, or says whether a completed initializer is left; a variable's line has no such word. `state` is that of a value, or the kind of
 // a completed initializer. The nodes lie at a place of a store or of a room.
@@ -32,36 +32,36 @@ pub fn empty_line(first: u32, state: u32) -> Line
 }
 
 // What is remembered of a type.
-pub fn remembered_line(rank: u32, remembered: Remembered) -> Line
+pub fn remembered_line(rank: u32, remembered: Result<Tree, Absent>) -> Line
     ensures { result ≡ remembered_line rank remembered }
 {
     match remembered {
-        Remembered::Unknown => empty_line(rank, 1),
-        Remembered::None => empty_line(rank, 1),
-        Remembered::TooLarge => empty_line(rank, 2),
-        Remembered::Tree { at, nodes } => Line {
+        Ok(tree) => Line {
             first: rank,
             state: 0,
-            nodes,
-            at,
+            nodes: tree.nodes,
+            at: tree.at,
         },
+        Err(Absent::Unknown) => empty_line(rank, 1),
+        Err(Absent::None) => empty_line(rank, 1),
+        Err(Absent::TooLarge) => empty_line(rank, 2),
     }
 }
 
 // What was built at the front of a room.
-pub fn built_line(built: Built) -> Line
+pub fn built_line(built: Result<usize, Unbuilt>) -> Line
     ensures { result ≡ built_line built }
 {
     match built {
-        Built::Ends(e) => Line {
+        Ok(e) => Line {
             first: 0,
             state: 0,
             nodes: e / NODE_WORDS,
             at: 0,
         },
-        Built::None => empty_line(0, 1),
-        Built::TooLarge => empty_line(0, 2),
-        Built::Wanted(_) => empty_line(0, 1),
+        Err(Unbuilt::None) => empty_line(0, 1),
+        Err(Unbuilt::TooLarge) => empty_line(0, 2),
+        Err(Unbuilt::Wanted(_)) => empty_line(0, 1),
     }
 }
 

@@ -12,7 +12,6 @@ ghost use Rattle.sheet_parts.specs.Resolved.{Resolved};
 
 use crate::line::{Line, built_line, empty_line, remembered_line};
 use build::built::INDEX_AT;
-use complete::answer::Completion;
 use complete::completion::completion;
 use definition::layout::NODE_WORDS;
 use driver::work::variable;
@@ -52,12 +51,12 @@ pub fn completed_line(file: &Source<'_>, v: u32, line: Line, room: &mut [u32]) -
     let at = line.at;
     let nodes = line.nodes;
     match completion(file, v, room, at, at + nodes * NODE_WORDS) {
-        Completion::Completed(kind) => Line {
+        Some(kind) => Line {
             first: 0,
             state: kind,
             nodes,
             at,
         },
-        Completion::Left => empty_line(1, 0),
+        None => empty_line(1, 0),
     }
 }

@@ -4,8 +4,9 @@ use mathlib.Core.List.{List, [], ◌∷◌, ◌++◌, append_assoc, append-nil}
 use Prim.Native.Nat.{ℕ, suc, ◌+◌, ◌-◌, ◌≤◌, ◌<◌}
 use native.Mathlib.Omega.{arith}
 use native.Mathlib.Numerals.{add-one}
-use lib.ListN.{length, get_or, take, drop, length-append}
-use lib.Seq.{drop-cons}
+use lib.ListN.{length, get_or, take, drop, length-append, length-drop}
+use lib.Seq.{drop-cons, get_or-drop, length-take-le}
+use Rattle.std.proofs.lemmas.List.{get_or-take}
 use borrow.Author.Rules.{rules}
 use Rattle.definition.specs.Program.{bytes_of, decimal, spaced, line_text, lines_text}
 use Rattle.laws.specs.Puts.{Puts, puts_then}
@@ -51,10 +52,10 @@ module _ (words : List ℕ) (i left : ℕ) (k : i + left ≤ length words) where
       let e : left ≡ 1 = omega arith in
       ap line_text (ap (λ (n : ℕ). take n (drop i words)) e ∙ front words i 1 (omega arith) (omega arith)) ∙ last-text (get_or words i 0)
 
--- ---- the loop: the words from i up to the last are still to be put
-pub record Lining (many : ℕ) (words old : List ℕ) (at : Places) (i last : ℕ) (text : List ℕ) (end : ℕ) : Type 0 where
-  pub putting : Putting (line_text (take many (drop at.word words))) old at.byte (line_text (take (last + 1 - i) (drop i words))) text end
-  pub some : i ≤ last
+-- ---- the loop: the words from the k-th of the line up to the last are still to be put
+pub record Lining (many : ℕ) (words old : List ℕ) (at : Places) (k last : ℕ) (text : List ℕ) (end : ℕ) : Type 0 where
+  pub putting : Putting (line_text (take many (drop at.word words))) old at.byte (line_text (take (last + 1 - (at.word + k)) (drop (at.word + k) words))) text end
+  pub some : at.word + k ≤ last
   pub inside : last < length words
   pub passes : last + 1 ≡ at.word + many
 
@@ -62,50 +63,62 @@ module _ {many : ℕ} {words : List ℕ} (old : List ℕ) {at : Places} (h : 0 <
   pub lining-inside : at.word + many ≤ length words
   lining-inside = x.inside
 
-  pub lining-first : Lining many words old at at.word (at.word + many - 1) old at.byte
+  pub lining-first : Lining many words old at 0 (at.word + many - 1) old at.byte
   lining-first =
       let line = take many (drop at.word words) in
+      let z : at.word + 0 ≡ at.word = omega arith in
       let k : at.word + many - 1 + 1 - at.word ≡ many = omega arith in
       record {
-        putting = rw k (putting-first (line_text line) old at.byte (omega (arith, x.room, ap length (one_line line))));
+        putting = rw (z, k) (putting-first (line_text line) old at.byte (omega (arith, x.room, ap length (one_line line))));
         some = omega arith;
         inside = omega (arith, x.inside);
         passes = omega arith;
       }
 
-module _ {many : ℕ} {words old : List ℕ} {at : Places} {i last : ℕ} {text : List ℕ} {end : ℕ} (x : Lining many words old at i last text end) where
-  all-inside : i + (last + 1 - i) ≤ length words
+module _ {many : ℕ} {words old : List ℕ} {at : Places} {k last : ℕ} {text : List ℕ} {end : ℕ} (x : Lining many words old at k last text end) where
+  all-inside : at.word + k + (last + 1 - (at.word + k)) ≤ length words
   all-inside = omega (arith, x.some, x.inside)
 
-  module _ (h : i < last) where
-    text_is : line_text (take (last + 1 - i) (drop i words)) ≡ word_text (get_or words i 0) 32 ++ line_text (take (last + 1 - (i + 1)) (drop (i + 1) words))
+  -- the words before the last, of which the loop is at the k-th
+  front-long : length (take (last - at.word) (drop at.word words)) ≡ last - at.word
+  front-long = length-take-le (last - at.word) (drop at.word words) (simp length-drop (omega (arith, x.inside)))
+
+  module _ (h : k < length (take (last - at.word) (drop at.word words))) where
+    before : at.word + k < last
+    before = omega (arith, front-long)
+
+    word-is : get_or (take (last - at.word) (drop at.word words)) k 0 ≡ get_or words (at.word + k) 0
+    word-is = get_or-take (last - at.word) (drop at.word words) k 0 (omega (arith, front-long)) ∙ get_or-drop at.word words k 0
+
+    text_is : line_text (take (last + 1 - (at.word + k)) (drop (at.word + k) words))
+        ≡ word_text (get_or (take (last - at.word) (drop at.word words)) k 0) 32 ++ line_text (take (last + 1 - (at.word + (k + 1))) (drop (at.word + (k + 1)) words))
     text_is =
-        let k : last + 1 - i - 1 ≡ last + 1 - (i + 1) = omega arith in
-        text-more words i (last + 1 - i) all-inside (omega arith) ∙ ap (λ (n : ℕ). word_text (get_or words i 0) 32 ++ line_text (take n (drop (i + 1) words))) k
+        let n : last + 1 - (at.word + k) - 1 ≡ last + 1 - (at.word + (k + 1)) = omega (arith, before) in
+        let m : at.word + k + 1 ≡ at.word + (k + 1) = omega arith in
+        rw (word-is, ← n, ← m) (text-more words (at.word + k) (last + 1 - (at.word + k)) all-inside (omega (arith, before)))
 
-    pub word-inside : i < length words
-    word-inside = omega (arith, x.inside)
-
-    pub more_room : end + length (decimal (get_or words i 0)) < length text
+    pub more_room : end + length (decimal (get_or (take (last - at.word) (drop at.word words)) k 0)) < length text
     more_room =
-        let n = get_or words i 0 in
-        omega (arith, x.putting.room, ap length text_is, length-append (word_text n 32) (line_text (take (last + 1 - (i + 1)) (drop (i + 1) words))), length-append (decimal n) (32 ∷ []))
+        let n = get_or (take (last - at.word) (drop at.word words)) k 0 in
+        omega (arith, x.putting.room, ap length text_is, length-append (word_text n 32) (line_text (take (last + 1 - (at.word + (k + 1))) (drop (at.word + (k + 1)) words))), length-append (decimal n) (32 ∷ []))
 
-    pub lining-more : {e : ℕ} {new : List ℕ} → Puts (word_text (get_or words i 0) 32) text end e new → Lining many words old at (i + 1) last new e
+    pub lining-more : {e : ℕ} {new : List ℕ} → Puts (word_text (get_or (take (last - at.word) (drop at.word words)) k 0) 32) text end e new → Lining many words old at (k + 1) last new e
     lining-more p =
         record {
-          putting = putting-more x.putting p (line_text (take (last + 1 - (i + 1)) (drop (i + 1) words))) text_is;
-          some = omega arith;
+          putting = putting-more x.putting p (line_text (take (last + 1 - (at.word + (k + 1))) (drop (at.word + (k + 1)) words))) text_is;
+          some = omega (arith, before);
           inside = x.inside;
           passes = x.passes;
         }
 
-  module _ (h : last ≤ i) where
-    last-is : line_text (take (last + 1 - i) (drop i words)) ≡ word_text (get_or words last 0) 10
-    last-is = let k : i ≡ last = omega (arith, x.some) in text-last words i (last + 1 - i) all-inside (omega (arith, x.some)) (omega (arith, x.some)) ∙ ap (λ (n : ℕ). word_text (get_or words n 0) 10) k
+  pub last-inside : last < length words
+  last-inside = x.inside
 
-    pub last-inside : last < length words
-    last-inside = x.inside
+  module _ (h : length (take (last - at.word) (drop at.word words)) ≤ k) where
+    last-is : line_text (take (last + 1 - (at.word + k)) (drop (at.word + k) words)) ≡ word_text (get_or words last 0) 10
+    last-is =
+        let e : at.word + k ≡ last = omega (arith, x.some, front-long) in
+        text-last words (at.word + k) (last + 1 - (at.word + k)) all-inside (omega (arith, x.some)) (omega (arith, e)) ∙ ap (λ (n : ℕ). word_text (get_or words n 0) 10) e
 
     pub last-room : end + length (decimal (get_or words last 0)) < length text
     last-room = omega (arith, x.putting.room, ap length last-is, length-append (decimal (get_or words last 0)) (10 ∷ []))
@@ -117,4 +130,4 @@ module _ {many : ℕ} {words old : List ℕ} {at : Places} {i last : ℕ} {text 
           puts = rw (one_line (take many (drop at.word words))) (putting-last x.putting (rw last-is p));
         }
 
-pub ruleset lining = (rules, puts_then, lining-inside, lining-first, word-inside, more_room, lining-more, last-inside, last-room, lining-last)
+pub ruleset lining = (rules, puts_then, lining-inside, lining-first, more_room, lining-more, last-inside, last-room, lining-last)

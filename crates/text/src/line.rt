@@ -32,8 +32,8 @@ pub fn put_line(text: &mut [u8], at: Places, words: &[u32], many: usize) -> Plac
 {
     let last = at.word + many - 1;
     let mut end = at.byte;
-    for i in at.word..last {
-        end = put_word(text, end, words[i], b' ');
+    for word in &words[at.word..last] {
+        end = put_word(text, end, *word, b' ');
     }
     end = put_word(text, end, words[last], b'\n');
     Places {

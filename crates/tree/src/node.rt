@@ -20,7 +20,8 @@ pub struct Node {
     pub width: u32,
 }
 
-fn get(s: &[u32], at: usize) -> Node
+// The node of the six words at a place.
+pub fn get(s: &[u32], at: usize) -> Node
     requires { at + 6 ≤ length s.now }
     ensures { result ≡ node_of s.now at }
 {

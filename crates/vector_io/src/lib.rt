@@ -35,15 +35,16 @@ impl Word for u8 {
 pub fn read_full(reader: &mut impl Read, bytes: &mut [u8]) -> io::Result<usize>
     ensures { ReadsAtMost result bytes.new }
 {
-    let mut done = 0;
-    while done < bytes.len() {
-        let n = reader.read(&mut bytes[done..])?;
+    let room = bytes.len();
+    let mut rest = bytes;
+    while !rest.is_empty() {
+        let n = reader.read(rest)?;
         if n == 0 {
             break;
         }
-        done += n;
+        rest = &mut rest[n..];
     }
-    Ok(done)
+    Ok(room - rest.len())
 }
 
 // The next word, of four bytes, the least first; None where the input ends before it does.

@@ -55,7 +55,7 @@ module _ {f : List ℕ} {t : ℕ} (x : TypesLong f (count f types) t) {w : Both}
     pub three-fit : Fits w64 (t + w.value + w.completed)
     three-fit = record { fits = omega (arith, most) }
 
-  pub sheet-counted : SheetLong f (record { value = t; completed = t + w.value; end = t + w.value + w.completed })
+  pub sheet-counted : SheetLong f (record { sections = record { value = t; completed = t + w.value }; end = t + w.value + w.completed })
   sheet-counted = record { types = λ ranks. x.is (rank_at ranks); value = omega (arith, y.value.is); completed = omega (arith, y.completed.is) }
 
 -- ---- `put_sheet`
@@ -64,13 +64,13 @@ module _ {f : List ℕ} {at : Places} (x : SheetLong f at) where
   room-types h ranks = record { room = omega (arith, x.types ranks, x.value, x.completed) }
 
   pub room-variables : {old : List ℕ} → at.end ≤ length old → {ws : List ℕ} {a b : ℕ} {mid : List ℕ} → Puts ws old a b mid
-      → SectionsRoom f (record { value = at.value; completed = at.completed }) (length mid)
+      → SectionsRoom f at.sections (length mid)
   room-variables h p = record { next = sym x.value; room = omega (arith, x.completed, puts-long p) }
 
-  pub sheet-put : (ranks : List ℕ) {old : List ℕ} {a : ℕ} {mid : List ℕ} → Puts (typed f ranks) old 0 a mid → {r : ℕ} {new : List ℕ} → Puts (valued f ++ filled f) mid at.value r new
+  pub sheet-put : (ranks : List ℕ) {old : List ℕ} {a : ℕ} {mid : List ℕ} → Puts (typed f ranks) old 0 a mid → {r : ℕ} {new : List ℕ} → Puts (valued f ++ filled f) mid at.sections.value r new
       → Puts (sheet_with f (rank_at ranks)) old 0 at.end new
   sheet-put ranks {old} {a} {mid} p {r} {new} q =
-      let e : at.value ≡ a = omega (arith, x.types ranks, p.ends) in
+      let e : at.sections.value ≡ a = omega (arith, x.types ranks, p.ends) in
       let l : length (valued f ++ filled f) ≡ length (valued f) + length (filled f) = length-append (valued f) (filled f) in
       let i : r ≡ at.end = omega (arith, x.value, x.completed, q.ends) in
       rw (sheet-is f ranks) (subst (λ (n : ℕ). Puts (typed f ranks ++ (valued f ++ filled f)) old 0 n new) i (puts_then p (subst (λ (b : ℕ). Puts (valued f ++ filled f) mid b r new) e q)))

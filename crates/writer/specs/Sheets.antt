@@ -22,9 +22,9 @@ pub record LowestRanks (f ranks : List ℕ) : Type 0 where
 
 -- where the sections of variables begin, and where the sheet ends
 pub record SheetLong (f : List ℕ) (at : Places) : Type 0 where
-  pub types : (ranks : List ℕ) → at.value ≡ length (section_of (ranked_line f (rank_at ranks)) (count f types))
-  pub value : at.completed ≡ at.value + length (section_of (variable_line f) (count f variables))
-  pub completed : at.end ≡ at.completed + length (section_of (completed_line f) (count f variables))
+  pub types : (ranks : List ℕ) → at.sections.value ≡ length (section_of (ranked_line f (rank_at ranks)) (count f types))
+  pub value : at.sections.completed ≡ at.sections.value + length (section_of (variable_line f) (count f variables))
+  pub completed : at.end ≡ at.sections.completed + length (section_of (completed_line f) (count f variables))
 
 -- a sheet is at the front of out, or out is too short
 pub record Answers (sheet old : List ℕ) (r : Result ℕ Refusal) (new : List ℕ) : Type 0 where

@@ -17,8 +17,7 @@ use sheet_parts::variables::{Both, count_variables, put_variables};
 // Where the two sections of variables begin, and where the sheet ends.
 #[derive(Clone, Copy)]
 pub struct Places {
-    pub value: usize,
-    pub completed: usize,
+    pub sections: Both,
     pub end: usize,
 }
 
@@ -28,10 +27,14 @@ fn count_sheet(file: &File<'_>, known: &[u32], store: &[u32], room: &mut [u32]) 
 {
     let types = count_types(file, known, store);
     let words = count_variables(file, known, store, room);
-    Places {
+    let completed = types + words.value;
+    let sections = Both {
         value: types,
-        completed: types + words.value,
-        end: types + words.value + words.completed,
+        completed,
+    };
+    Places {
+        sections,
+        end: completed + words.completed,
     }
 }
 
@@ -49,11 +52,7 @@ fn put_sheet(
     ensures { Puts (sheet_with file.now.source (rank_at ranks.now)) out.old 0 at.end out.new }
 {
     put_types(file, known, store, ranks, out);
-    let variables = Both {
-        value: at.value,
-        completed: at.completed,
-    };
-    put_variables(file, known, store, room, out, variables);
+    put_variables(file, known, store, room, out, at.sections);
 }
 
 // The sheet is counted first: a refusal leaves out as it is.

@@ -15,9 +15,9 @@ use definition::answers::Refusal;
 use definition::layout::TYPES;
 use driver::every::resolve_types;
 use driver::tables::KNOWN_WORDS;
-use lines::clear::clear;
 use ranks::lowest::{Circle, lowest_ranks};
 use records::file::File;
+use resolver::lent::with_lent;
 use shapes::classes::shape_classes;
 
 // A file has at most 1,024 types.
@@ -113,8 +113,10 @@ pub fn write_sheet(
     ensures lines { lines.new ≡ cleared lines.old }
     ensures room { room.new ≡ cleared room.old }
 {
-    let answer = sheet_answer(words, out, lines, room);
-    clear(lines);
-    clear(room);
-    answer
+    with_lent(
+        out,
+        lines,
+        room,
+        |out, lines, room| sheet_answer(words, out, lines, room),
+    )
 }

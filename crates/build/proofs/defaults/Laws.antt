@@ -45,16 +45,16 @@ use Rattle.places.specs.Found.{block_run, names_of, names-of-run}
 use Rattle.places.proofs.field.Laws.{linked-type, place-linked, fields_fit}
 use Rattle.places.proofs.block.Laws.{block-fits}
 use Rattle.laws.specs.Links.{link-to}
-use Rattle.build.specs.declared.built.Built.{Built}
-use Rattle.build.specs.declared.built.Built.TheVariants.{Ends, None, TooLarge}
-use Rattle.build.specs.Built.{Gives, Puts, Memory, Builds}
+use Rattle.build.specs.declared.built.Unbuilt.TheVariants as unbuilt
+use Rattle.build.specs.declared.built.Unbuilt.{Unbuilt}
+use Rattle.build.specs.Built.{Built, Gives, Puts, Memory, Builds}
 use Rattle.build.specs.Parts.{implicit_levels, start_levels, is_listed, listed_names, field_ask, BuildsField, array_words, Spreads}
 use Rattle.build.specs.Fields.{NamesField}
-use Rattle.build.proofs.Peeks.{then_peek, peek-then, NoEnd, ends-not, gives-fails, gives-ends, kept-before}
+use Rattle.build.proofs.Peeks.{then_peek, peek-then, err-no-end, gives-err, gives-ends, kept-before}
 use Rattle.build.proofs.Levels.{levels-implicit, levels-typed, levels-some, element-levels, field-levels}
 use Rattle.build.proofs.Smalls.{default-small, elements-small, default-whole, default-after}
 use Rattle.build.proofs.Gathers.{SoFar, so-far-none, so_far_skip, so-far-all, so-far-fails, so_far_more}
-use Rattle.std.specs.Prelude.{Option, Some}
+use Rattle.std.specs.Prelude.{Err, Ok, Option, Some}
 use Rattle.std.specs.Prelude as std
 use Rattle.places.specs.declared.block.Run.{Run}
 
@@ -209,7 +209,7 @@ module _ {f : List ℕ} (a : Accepted f) {place : Place} (i : PlaceIn f place) w
         go M (wants d) k x = record { says = x.says; stands = tt }
 
   pub block_none : {known store : List ℕ} {at : ℕ} {old : List ℕ} {n : ℕ} → place.shape ≡ shape.FunctionBlock n → {b : Option Run} → b ≡ block_run f place → b ≡ std.None
-      → Builds f known store flatten (implicit f place) at old None old
+      → Builds f known store flatten (implicit f place) at old (Err unbuilt.None) old
   unfolding names_of ◌>>=◌ bind
   block_none e q k =
       let w : block_field_names f place ≡ none = names-of-run f place ∙ ap (names_of f) (sym q ∙ k) in
@@ -269,17 +269,18 @@ module _ (f : List ℕ) (place : Place) {s first many : ℕ} (e : place.shape �
     pub inner-falls : Accepted f → PlaceIn f place → (t : ℕ) → 4 * implicit_levels f place + 1 ≡ t → 4 * start_levels f inner + 3 < t
     inner-falls a i t h = rw k (omega (arith, element-levels f a place s first many i e))
 
-    module _ {known store : List ℕ} (at : ℕ) {old : List ℕ} {r : Built} {mid : List ℕ} (x : Builds f known store flatten (default_of f inner) (at + 6) old r mid) where
-      pub element-fails : NoEnd r → Builds f known store array_words (element_defaults f (default_of f) place) at old r mid
-      element-fails n =
+    module _ {known store : List ℕ} (at : ℕ) {old : List ℕ} {r : Built} {mid : List ℕ} where
+      -- what `?` hands on
+      pub element-fails : {u : Unbuilt} → Builds f known store flatten (default_of f inner) (at + 6) old (Err u) mid → r ≡ Err u → Builds f known store array_words (element_defaults f (default_of f) place) at old r mid
+      element-fails x q =
           record {
-            gives = λ M m. rw (peek-elements M) (gives-fails array_words at mid n (peek M (default_of f inner)) (x.gives M m) _);
+            gives = λ M m. rw (peek-elements M) (gives-err array_words at mid (peek M (default_of f inner)) (x.gives M m) _ q);
             kept = kept-before at (at + 6) mid old (omega arith) x.kept;
           }
 
-      pub element-all : Accepted f → PlaceIn f place → {end : ℕ} → r ≡ Ends end → {r' : Built} {new : List ℕ} → Spreads (elements_of f first many) at end mid r' new
+      pub element-all : Builds f known store flatten (default_of f inner) (at + 6) old r mid → Accepted f → PlaceIn f place → {end : ℕ} → r ≡ Ok end → {r' : Built} {new : List ℕ} → Spreads (elements_of f first many) at end mid r' new
           → Builds f known store array_words (element_defaults f (default_of f) place) at old r' new
-      element-all a i {end} q {r'} {new} y = record { gives = go; kept = y.kept ∙ kept-before at (at + 6) mid old (omega arith) x.kept }
+      element-all x a i {end} q {r'} {new} y = record { gives = go; kept = y.kept ∙ kept-before at (at + 6) mid old (omega arith) x.kept }
         where
           go : (M : Memo) → Memory f known store M → Gives array_words (peek M (element_defaults f (default_of f) place)) at r' new
           go M m =
@@ -309,13 +310,13 @@ module _ (M : Memo) (size name : ℕ) (t : Tree) where
   unfolding field gathered peek
   peek-over h = rw (lt-leb (suc (size + nodes_in (one (named name t)))) most_nodes (omega (arith, named-nodes)))
 
-pub one-gives : (to : ℕ) (name : ℕ) (t : Tree) (e : ℕ) (new : List ℕ) → Stand new to (flatten (named name t)) e → Gives flatten_all (got (ok (one (named name t)))) to (Ends e) new
+pub one-gives : (to : ℕ) (name : ℕ) (t : Tree) (e : ℕ) (new : List ℕ) → Stand new to (flatten (named name t)) e → Gives flatten_all (got (ok (one (named name t)))) to (Ok e) new
 one-gives to name t e new x =
     let y : Stand new to (flatten_all (one (named name t))) e = rw (flatten_all-one (named name t)) x in
-    record { says = ap Ends (sym y.long); stands = rw y.long y }
+    record { says = ap Ok (sym y.long); stands = rw y.long y }
 
 module _ (f : List ℕ) (place : Place) (name : ℕ) (w : Option Place) (k : result_of w ≡ field_place f place name) where
-  pub field-none : {known store : List ℕ} {at to : ℕ} {old : List ℕ} → w ≡ std.None → BuildsField f known store place name at to old None old
+  pub field-none : {known store : List ℕ} {at to : ℕ} {old : List ℕ} → w ≡ std.None → BuildsField f known store place name at to old (Err unbuilt.None) old
   field-none e =
       let z : field_place f place name ≡ none = sym k ∙ ap result_of e in
       record {
@@ -337,20 +338,22 @@ module _ (f : List ℕ) (place : Place) (name : ℕ) (w : Option Place) (k : res
     pub field-falls : Accepted f → PlaceIn f place → (t : ℕ) → 4 * implicit_levels f place ≡ t → 4 * start_levels f inner + 3 < t
     field-falls a i t h = omega (arith, field-levels f a place name i k e)
 
-    module _ {known store : List ℕ} {at to : ℕ} {old : List ℕ} {r : Built} {mid : List ℕ} (x : Builds f known store flatten (default_of f inner) to old r mid) where
-      pub field-fails : NoEnd r → BuildsField f known store place name at to old r mid
-      field-fails n =
-          record {
-            gives = λ size u M m. rw (peek-inner M size) (gives-fails flatten_all to mid n (peek M (default_of f inner)) (x.gives M m) _);
-            ends = λ e q. ends-not e (rw q at n);
-            kept = x.kept;
-          }
+    -- what `?` hands on
+    pub field-fails : {known store : List ℕ} {at to : ℕ} {old : List ℕ} {u : Unbuilt} {mid : List ℕ} → Builds f known store flatten (default_of f inner) to old (Err u) mid → {r : Built} → r ≡ Err u
+        → BuildsField f known store place name at to old r mid
+    field-fails {to = to} {mid = mid} x q =
+        record {
+          gives = λ size u M m. rw (peek-inner M size) (gives-err flatten_all to mid (peek M (default_of f inner)) (x.gives M m) _ q);
+          ends = λ e p. absurd (err-no-end q e p);
+          kept = x.kept;
+        }
 
-      module _ {end : ℕ} (q : r ≡ Ends end) (h : at ≤ to) (l : to ≤ end) {r' : Built} {new : List ℕ} (y : NamesField at to end name mid r' new) where
+    module _ {known store : List ℕ} {at to : ℕ} {old : List ℕ} {r : Built} {mid : List ℕ} (x : Builds f known store flatten (default_of f inner) to old r mid) where
+      module _ {end : ℕ} (q : r ≡ Ok end) (h : at ≤ to) (l : to ≤ end) {r' : Built} {new : List ℕ} (y : NamesField at to end name mid r' new) where
         pub field-all : BuildsField f known store place name at to old r' new
         field-all = go (ltb tree_words (end - at)) refl y.says y.is
           where
-            go : (b : Bool) → ltb tree_words (end - at) ≡ b → r' ≡ pick b TooLarge (Ends end) → new ≡ pick b mid (set mid to name) → BuildsField f known store place name at to old r' new
+            go : (b : Bool) → ltb tree_words (end - at) ≡ b → r' ≡ pick b (Err unbuilt.TooLarge) (Ok end) → new ≡ pick b mid (set mid to name) → BuildsField f known store place name at to old r' new
             go true t s d =
                 record {
                   gives = λ size u M m.

@@ -16,13 +16,11 @@ use Rattle.laws.specs.Used.{IsType}
 use Rattle.laws.specs.Steps.{peek-known, peek-asked}
 use Rattle.laws.specs.Values.{Small}
 use Rattle.laws.specs.Whole.{flatten-length}
-use Rattle.lines.specs.declared.look.Remembered.{Remembered}
-use Rattle.lines.specs.declared.look.Remembered.TheVariants as look
-use Rattle.lines.specs.Look.{remembered_of}
+use Rattle.lines.specs.Look.{Remembered, remembered_of}
 use Rattle.lines.specs.Copy.{copy_fits, copied_words, Copies}
 use Rattle.lines.proofs.Meanings.{copy-unknown, copy-none, copy-large, copy-ends, copy-full, copy-stands}
 use Rattle.lines.proofs.Memories.{remembers-small}
-use Rattle.build.specs.declared.built.Built.TheVariants.{Ends, None, TooLarge, Wanted}
+use Rattle.build.specs.declared.built.Unbuilt.TheVariants as unbuilt
 use Rattle.definition.specs.Tree.{tree_words}
 use Rattle.build.specs.Built.{index_in, Gives, Memory, Builds}
 use Rattle.build.proofs.leaves.Laws.{paste-kept}
@@ -33,14 +31,12 @@ use Rattle.lines.specs.declared.copy.Uncopied.{Uncopied}
 
 copied-kept : (store old : List ℕ) (at : ℕ) → at ≤ length old → (w : Remembered) → take at (copied_words w store old at) ≡ take at old
 unfolding copied_words
-copied-kept store old at h look.Unknown = refl
-copied-kept store old at h look.None = refl
-copied-kept store old at h look.TooLarge = refl
-copied-kept store old at h (look.Tree a n) = go (copy_fits store a n old at)
+copied-kept store old at h (Ok w) = go (copy_fits store w.at w.nodes old at)
   where
-    go : (b : Bool) → take at (pick b (paste old at (drop a store) (n * 6)) old) ≡ take at old
-    go true = paste-kept old at (drop a store) (n * 6) h
+    go : (b : Bool) → take at (pick b (paste old at (drop w.at store) (w.nodes * 6)) old) ≡ take at old
+    go true = paste-kept old at (drop w.at store) (w.nodes * 6) h
     go false = refl
+copied-kept store old at h (Err w) = refl
 
 module _ (f known : List ℕ) {t : ℕ} (i : IsType f t) {store old : List ℕ} {at : ℕ} {r : std.Result ℕ Uncopied} {new : List ℕ} (c : Copies (index_in known) store t old at r new) (h : at + tree_words ≤ length old) where
   kept : take at new ≡ take at old
@@ -49,7 +45,7 @@ module _ (f known : List ℕ) {t : ℕ} (i : IsType f t) {store old : List ℕ} 
   inside : (M : Memo) → Memory f known store M → t < length M
   inside M m = omega (arith, m.all)
 
-  pub type-wanted : {u : Uncopied} → r ≡ Err u → u ≡ uncopied.Unknown → Builds f known store trees.flatten (type_default t) at old (Wanted t) new
+  pub type-wanted : {u : Uncopied} → r ≡ Err u → u ≡ uncopied.Unknown → Builds f known store trees.flatten (type_default t) at old (Err (unbuilt.Wanted t)) new
   type-wanted i j =
       let e : r ≡ Err uncopied.Unknown = cc in
       record {
@@ -57,7 +53,7 @@ module _ (f known : List ℕ) {t : ℕ} (i : IsType f t) {store old : List ℕ} 
         kept = kept;
       }
 
-  pub type-none : {u : Uncopied} → r ≡ Err u → u ≡ uncopied.None → Builds f known store trees.flatten (type_default t) at old None new
+  pub type-none : {u : Uncopied} → r ≡ Err u → u ≡ uncopied.None → Builds f known store trees.flatten (type_default t) at old (Err unbuilt.None) new
   type-none i j =
       let e : r ≡ Err uncopied.None = cc in
       record {
@@ -65,7 +61,7 @@ module _ (f known : List ℕ) {t : ℕ} (i : IsType f t) {store old : List ℕ} 
         kept = kept;
       }
 
-  pub type-large : {u : Uncopied} → r ≡ Err u → u ≡ uncopied.TooLarge → Builds f known store trees.flatten (type_default t) at old TooLarge new
+  pub type-large : {u : Uncopied} → r ≡ Err u → u ≡ uncopied.TooLarge → Builds f known store trees.flatten (type_default t) at old (Err unbuilt.TooLarge) new
   type-large i j =
       let e : r ≡ Err uncopied.TooLarge = cc in
       record {
@@ -73,23 +69,23 @@ module _ (f known : List ℕ) {t : ℕ} (i : IsType f t) {store old : List ℕ} 
         kept = kept;
       }
 
-  pub type-ends : {e : ℕ} → r ≡ Ok e → Builds f known store trees.flatten (type_default t) at old (Ends e) new
+  pub type-ends : {e : ℕ} → r ≡ Ok e → Builds f known store trees.flatten (type_default t) at old (Ok e) new
   type-ends {e} q = record { gives = go; kept = kept }
     where
-      go : (M : Memo) → Memory f known store M → Gives trees.flatten (peek M (type_default t)) at (Ends e) new
+      go : (M : Memo) → Memory f known store M → Gives trees.flatten (peek M (type_default t)) at (Ok e) new
       go M m =
           let y = copy-ends m.remembers t (inside M m) c q in
           let n : at + length (trees.flatten y.tree) ≡ e = omega (arith, y.ends, flatten-length y.tree) in
-          rw (peek-known M t (ok y.tree) y.is) (record { says = ap Ends (sym n); stands = rw n (copy-stands y) })
+          rw (peek-known M t (ok y.tree) y.is) (record { says = ap Ok (sym n); stands = rw n (copy-stands y) })
 
   -- there is room for every tree
-  pub type-full : {u : Uncopied} → r ≡ Err u → u ≡ uncopied.Full → Builds f known store trees.flatten (type_default t) at old None new
+  pub type-full : {u : Uncopied} → r ≡ Err u → u ≡ uncopied.Full → Builds f known store trees.flatten (type_default t) at old (Err unbuilt.None) new
   type-full i j = record { gives = go; kept = kept }
     where
       q : r ≡ Err uncopied.Full
       q = cc
 
-      go : (M : Memo) → Memory f known store M → Gives trees.flatten (peek M (type_default t)) at None new
+      go : (M : Memo) → Memory f known store M → Gives trees.flatten (peek M (type_default t)) at (Err unbuilt.None) new
       go M m =
           let y = copy-full m.remembers t (inside M m) c q in
           let s : Small y.tree = remembers-small m.remembers t (ok y.tree) (inside M m) y.is in

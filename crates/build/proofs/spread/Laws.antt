@@ -28,9 +28,9 @@ use Rattle.tree.specs.Part.{value_at, value_is}
 use Rattle.tree_changes.specs.Grow.{Grew, Repeated}
 use Rattle.tree.proofs.Fields.{parts-stand, stands-long, value_there, kind-array}
 use Rattle.tree.proofs.Standing.{copied-there, repeated-there, headed-there}
-use Rattle.build.specs.declared.built.Built.{Built}
-use Rattle.build.specs.declared.built.Built.TheVariants.{Ends, None, TooLarge}
-use Rattle.build.specs.Built.{Gives}
+use Rattle.build.specs.declared.built.Unbuilt.TheVariants as unbuilt
+use Rattle.build.specs.Built.{Built, Gives}
+use Rattle.build.specs.Unfit.{unbuilt_of}
 use Rattle.build.specs.Parts.{array_words, Spreads, WholeAt}
 use Rattle.build.specs.Spread.{FlatAt, Flattens}
 use Rattle.build.proofs.Peeks.{kept-before}
@@ -170,9 +170,9 @@ unfolding repeated_defaults peek give
 peek-too-large M k ts e = rw e
 
 -- an array's words up to an end
-array-gives : (at : ℕ) (ts : Trees) (e : ℕ) (fin : List ℕ) → Stand fin at (flatten (headed 13 ts)) e → Gives array_words (got (ok ts)) at (Ends e) fin
+array-gives : (at : ℕ) (ts : Trees) (e : ℕ) (fin : List ℕ) → Stand fin at (flatten (headed 13 ts)) e → Gives array_words (got (ok ts)) at (Ok e) fin
 unfolding array_tree
-array-gives at ts e fin x = record { says = ap Ends (sym x.long); stands = rw x.long x }
+array-gives at ts e fin x = record { says = ap Ok (sym x.long); stands = rw x.long x }
 
 -- as many words as nodes, so many times
 product-comm : (n k : ℕ) → n * 6 * k ≡ 6 * (k * n)
@@ -194,7 +194,7 @@ module _ {p end : ℕ} {old : List ℕ} (whole : WholeAt old p end) {count size 
 module _ (at : ℕ) {end : ℕ} {old : List ℕ} (whole : WholeAt old (at + 6) end) {count size : ℕ} {mid : List ℕ} (y : Flattens (at + 6) end old count size mid)
     {k : ℕ} {g : std.Result ℕ Unfit} {new : List ℕ} (z : Repeated mid (at + 6) size k g new) (h : at + tree_words ≤ length old) (l : length mid ≡ length old) where
   pub spread-ends : {e : ℕ} → g ≡ Ok e → length new ≡ length mid → {w : Option ℕ} {fin : List ℕ} → WroteNode new at (head_words 13 (count * k)) w fin
-      → Spreads k at end old (Ends e) fin
+      → Spreads k at end old (Ok e) fin
   spread-ends {e} i m {w} {fin} u =
       let p : fin ≡ paste new at (head_words 13 (count * k)) 6 = rw (le-leb (at + 6) (length new) (omega arith)) at u.is in
       let q = grew-ends (leb (suc (k * size)) most_nodes) _ z i in
@@ -214,9 +214,8 @@ module _ (at : ℕ) {end : ℕ} {old : List ℕ} (whole : WholeAt old (at + 6) e
             ∙ kept-before at (at + 6) mid old (omega arith) y.kept;
       }
 
-  pub spread-large : {u : Unfit} → g ≡ Err u → u ≡ unfit.TooLarge → Spreads k at end old TooLarge new
-  spread-large a b =
-      let i : g ≡ Err unfit.TooLarge = cc in
+  spread-large : g ≡ Err unfit.TooLarge → Spreads k at end old (Err unbuilt.TooLarge) new
+  spread-large i =
       let q = grew-large (leb (suc (k * size)) most_nodes) _ z i in
       record {
         gives = λ t good st M.
@@ -226,19 +225,25 @@ module _ (at : ℕ) {end : ℕ} {old : List ℕ} (whole : WholeAt old (at + 6) e
         kept = ap (take at) q.1 ∙ kept-before at (at + 6) mid old (omega arith) y.kept;
       }
 
-  -- there is room
-  pub spread-not : {u : Unfit} → g ≡ Err u → u ≡ unfit.Outside → Spreads k at end old None new
-  spread-not a b =
-      let i : g ≡ Err unfit.Outside = cc in
-      let q = grew-not (leb (suc (k * size)) most_nodes) _ z i in
-      let f = leb-true (suc (k * size)) most_nodes q.0 in
-      let r : at + 6 + size * 6 * k ≤ length mid = omega (arith, product-comm size k) in
-      let x = y.gives whole.tree whole.good whole.stands in
-      let b : at + 6 + size * 6 ≤ length mid = x.stands.fits in
-      let c : leb (at + 6 + size * 6) (length mid) && leb (at + 6 + size * 6 * k) (length mid) ≡ true = rw (le-leb (at + 6 + size * 6) (length mid) b, le-leb (at + 6 + size * 6 * k) (length mid) r) in
-      let d = q.1 in
-      let v : ◌≡◌ {A = Bool} true false = sym c ∙ d in
-      let u : ◌≡◌ {A = ℕ} 0 1 = cc in absurd (omega arith)
+  pub spread-fails : {u : Unfit} → g ≡ Err u → {r : Built} → r ≡ Err (unbuilt_of u) → Spreads k at end old r new
+  spread-fails {u} i {r} q = rw q (go u i)
+    where
+      -- there is room
+      inside : g ≡ Err unfit.Outside → ⊥
+      inside i =
+          let q = grew-not (leb (suc (k * size)) most_nodes) _ z i in
+          let f = leb-true (suc (k * size)) most_nodes q.0 in
+          let r : at + 6 + size * 6 * k ≤ length mid = omega (arith, product-comm size k) in
+          let x = y.gives whole.tree whole.good whole.stands in
+          let b : at + 6 + size * 6 ≤ length mid = x.stands.fits in
+          let c : leb (at + 6 + size * 6) (length mid) && leb (at + 6 + size * 6 * k) (length mid) ≡ true = rw (le-leb (at + 6 + size * 6) (length mid) b, le-leb (at + 6 + size * 6 * k) (length mid) r) in
+          let d = q.1 in
+          let v : ◌≡◌ {A = Bool} true false = sym c ∙ d in
+          let u : ◌≡◌ {A = ℕ} 0 1 = cc in omega arith
+
+      go : (u : Unfit) → g ≡ Err u → Spreads k at end old (Err (unbuilt_of u)) new
+      go unfit.TooLarge i = spread-large i
+      go unfit.Outside i = absurd (inside i)
 
 -- ---- `spread`
 times-nothing : (k : ℕ) → times k tnil ≡ tnil
@@ -273,4 +278,4 @@ spread-all {at} {end} {old} {r} {new} {times} k e x =
       kept = x.kept;
     }
 
-pub ruleset laws = (rules, whole-runs, whole-head, whole-fits, whole-nodes, whole_words_lem, values_none, values_one, values-parts, spread-count, spread-ends, spread-large, spread-not, spread-all)
+pub ruleset laws = (rules, whole-runs, whole-head, whole-fits, whole-nodes, whole_words_lem, values_none, values_one, values-parts, spread-count, spread-ends, spread-fails, spread-all)

@@ -1,4 +1,4 @@
--- A law for each return of body.rt, and what its calls require. Assumes nothing.
+-- What the calls of body.rt require, and what parts come to; its returns are closed by computing. Assumes nothing.
 use borrow.Enum.Refused.{opened}
 use mathlib.Core.Path.{◌≡◌, refl, ap, sym, subst, ◌∙◌, fun_ext}
 use mathlib.Core.Bool.{Bool, true, false}
@@ -17,29 +17,26 @@ use Rattle.definition.specs.declared.records.Place.{Place}
 use Rattle.definition.specs.Base.{choose, inline}
 use Rattle.definition.specs.Layout as Layout
 use Rattle.definition.specs.Layout.{word, count, elements, variables, most_records, limits_of_records}
-use Rattle.definition.specs.Records.{alias_base, declaration_at, named_type}
-use Rattle.definition.specs.Tree.{Tree, Trees, flatten, null_tree}
-use Rattle.definition.specs.Ask.{Result, Ask, ◌>>=◌, bind, give, nothing, and_more}
+use Rattle.definition.specs.Records.{declaration_at, named_type}
+use Rattle.definition.specs.Tree.{Tree, Trees}
+use Rattle.definition.specs.Ask.{Result, Ask, ◌>>=◌, bind, nothing, and_more}
 use Rattle.definition.specs.Places.{place_of}
 use Rattle.definition.specs.Uses.{named_use, declaration_uses}
 use Rattle.definition.specs.Parts.{structured, field, is_instance}
 use Rattle.definition.specs.Defaults as Defaults
-use Rattle.definition.specs.Starting.{implicit, spec_default, subrange_default, declaration, variable_field, elements_from, instance_from, body_by, body}
+use Rattle.definition.specs.Starting.{declaration, variable_field, elements_from, instance_from}
+use Rattle.laws.specs.Steps.{peek-nothing}
 use Rattle.laws.specs.Accepted.{Accepted, count_most, few-types, type-points, link-in}
 use Rattle.laws.specs.Every.{Each}
 use Rattle.laws.specs.Links.{Link, each-name, initializer-apart, uses-apart}
 use Rattle.laws.specs.Used.{IsType, initializer-inside, uses-inside, start-inside, leads-inside}
 use Rattle.laws.specs.Pointed.{DeclarationPointed, declaration-pointed}
 use Rattle.places.specs.Inside.{PlaceIn, of-in}
-use Rattle.build.specs.declared.built.Built.{Built}
-use Rattle.build.specs.declared.built.Built.TheVariants.{None}
-use Rattle.build.specs.Built.{Builds}
 use Rattle.build.specs.Parts.{implicit_levels}
 use Rattle.build.proofs.Levels.{levels-some}
 use Rattle.initial.specs.declared.values.Stated.TheVariants as stated
-use Rattle.initial.specs.Stated.{Lays, stated_as, stated_or, array_or, ArrayIn, AliasIn, SpecIn, ValueIn, StartIn, element_start, variable_start, part_start, is_part, part_ask, parts_from, PartsIn, simple_default, alias_default, base_default}
-use Rattle.initial.specs.Rooms.{entry_levels, parts_levels, simple_levels, body_levels_by, body_levels}
-use Rattle.initial.proofs.Alike.{same, laid, no_value_lem}
+use Rattle.initial.specs.Stated.{ArrayIn, AliasIn, SpecIn, ValueIn, StartIn, element_start, variable_start, part_start, is_part, part_ask, parts_from, PartsIn}
+use Rattle.initial.specs.Rooms.{entry_levels, parts_levels, body_levels_by, body_levels}
 use Rattle.initial.proofs.start.Laws.{constants-in, max-left, max-right}
 
 -- ---- parts of a structure and of a function block
@@ -79,37 +76,20 @@ of-variables f place v (suc k) made size = go (is_instance (word f variables v 1
         ∙ ap (and_more made size (variable_field f v size)) (fun_ext (λ m. fun_ext (λ s. ih m s)))
     go false ih = ih made size
 
-structure-is : (f : List ℕ) (place : Place) (first many : ℕ) → structured (elements_from f place first many) ≡ structured (parts_from f place elements first many)
+pub structure-is : (f : List ℕ) (place : Place) (first many : ℕ) → structured (elements_from f place first many) ≡ structured (parts_from f place elements first many)
 structure-is f place first many = ap structured (fun_ext (λ m. fun_ext (λ s. sym (of-elements f place first many m s))))
 
-block-is : (f : List ℕ) (place : Place) (first many : ℕ) → structured (instance_from f first many) ≡ structured (parts_from f place variables first many)
+pub block-is : (f : List ℕ) (place : Place) (first many : ℕ) → structured (instance_from f first many) ≡ structured (parts_from f place variables first many)
 block-is f place first many = ap structured (fun_ext (λ m. fun_ext (λ s. sym (of-variables f place first many m s))))
-
--- ---- `block_default`
-pub block-parts : {f known store : List ℕ} {at : ℕ} {old : List ℕ} {r : Built} {new : List ℕ} (place : Place) (first many : ℕ)
-    → Builds f known store flatten (structured (parts_from f place 8 first many)) at old r new → Builds f known store flatten (structured (instance_from f first many)) at old r new
-block-parts {f} place first many h = same (structured (parts_from f place 8 first many)) (structured (instance_from f first many)) (block-is f place first many) h
 
 -- ---- room
 module _ (f : List ℕ) (place : Place) (at n : ℕ) {d : Declaration} (h : at + body_levels_by f place d * 12288 ≤ n) where
   at-view : {e : Declaration} → d ≡ e → at + body_levels_by f place e * 12288 ≤ n
   at-view e = subst (λ (x : Declaration). at + body_levels_by f place x * 12288 ≤ n) e h
 
-  pub nothing-room : d ≡ decl.Nothing → at + implicit_levels f place * 12288 ≤ n
-  unfolding body_levels_by
-  nothing-room e = at-view e
-
-  pub simple-room : {start : ℕ} → d ≡ decl.Simple start → at + simple_levels f start place * 12288 ≤ n
-  unfolding body_levels_by
-  simple-room e = at-view e
-
   pub subrange-room : {name start : ℕ} → d ≡ decl.Subrange name start → at + implicit_levels f place * 12288 ≤ n
   unfolding body_levels_by
   subrange-room e = at-view e
-
-  pub string-room : {start : ℕ} → d ≡ decl.String start → at + implicit_levels f place * 12288 ≤ n
-  unfolding body_levels_by
-  string-room e = at-view e
 
   module _ {name first many : ℕ} (e : d ≡ decl.Array name first many) where
     pub array-room : at + implicit_levels f place * 12288 ≤ n
@@ -218,70 +198,6 @@ module _ {f : List ℕ} (a : Accepted f) {t : ℕ} (l : IsType f t) where
               named = λ k. (leads-inside f a).names t (start - 1) l s k;
             }
 
--- ---- `declared_default`
-module _ (f : List ℕ) (t : ℕ) (place : Place) {d : Declaration} where
-  by-view : {e : Declaration} → d ≡ e → body_by f t place d ≡ body_by f t place e
-  by-view e = ap (body_by f t place) e
-
-  module _ {known store : List ℕ} {at : ℕ} {old : List ℕ} {r : Built} {new : List ℕ} where
-    pub body-nothing : {base : ℕ} → d ≡ decl.Nothing → base ≡ word f Layout.types t 1 → Builds f known store flatten (base_default f place base) at old r new → Builds f known store flatten (body_by f t place d) at old r new
-    unfolding Defaults.body_by base_default alias_base
-    body-nothing {base} e q h = same (base_default f place base) (body_by f t place d) (by-view e ∙ rw (← q)) h
-
-    pub body-simple : {start : ℕ} → d ≡ decl.Simple start → Builds f known store flatten (simple_default f place start) at old r new → Builds f known store flatten (body_by f t place d) at old r new
-    unfolding Defaults.body_by simple_default alias_default
-    body-simple {start} e h = same (simple_default f place start) (body_by f t place d) (by-view e) h
-
-    pub body-subrange : {name start : ℕ} → d ≡ decl.Subrange name start → Builds f known store flatten (subrange_default f place name start) at old r new → Builds f known store flatten (body_by f t place d) at old r new
-    unfolding Defaults.body_by
-    body-subrange {name} {start} e h = same (subrange_default f place name start) (body_by f t place d) (by-view e) h
-
-    pub body-string : {start : ℕ} → d ≡ decl.String start → Builds f known store flatten (stated_or f stated.Constant place start (implicit f place)) at old r new → Builds f known store flatten (body_by f t place d) at old r new
-    unfolding Defaults.body_by stated_or stated_as
-    body-string {start} e h = same (stated_or f stated.Constant place start (implicit f place)) (body_by f t place d) (by-view e) h
-
-    pub body-array : {name first many : ℕ} → d ≡ decl.Array name first many → Builds f known store flatten (array_or f place first many (spec_default f place name)) at old r new
-        → Builds f known store flatten (body_by f t place d) at old r new
-    unfolding Defaults.body_by array_or
-    body-array {name} {first} {many} e h = same (array_or f place first many (spec_default f place name)) (body_by f t place d) (by-view e) h
-
-    pub body-structure : {first many : ℕ} → d ≡ decl.Structure first many → Builds f known store flatten (structured (parts_from f place 7 first many)) at old r new
-        → Builds f known store flatten (body_by f t place d) at old r new
-    unfolding Defaults.body_by
-    body-structure {first} {many} e h = same (structured (parts_from f place 7 first many)) (body_by f t place d) (by-view e ∙ structure-is f place first many) h
-
-    pub body-block : {first many : ℕ} → d ≡ decl.FunctionBlock first many → Builds f known store flatten (structured (instance_from f first many)) at old r new
-        → Builds f known store flatten (body_by f t place d) at old r new
-    unfolding Defaults.body_by
-    body-block {first} {many} e h = same (structured (instance_from f first many)) (body_by f t place d) (by-view e) h
-
-    pub body-reference : {name : ℕ} → d ≡ decl.Reference name → Lays (give null_tree) at old r new → Builds f known store flatten (body_by f t place d) at old r new
-    unfolding Defaults.body_by
-    body-reference e h = laid (give null_tree) (body_by f t place d) (by-view e) h
-
-  pub body-unknown : {known store : List ℕ} {at : ℕ} {old : List ℕ} → d ≡ decl.Unknown → Builds f known store flatten (body_by f t place d) at old None old
-  unfolding Defaults.body_by
-  body-unknown e = no_value_lem (body_by f t place d) (by-view e)
-
-module _ (f : List ℕ) (t : ℕ) (place : Place) where
-  implicit-view : (d : Declaration) → OneOf implicitly (tag_of the_type d) → body_by f t place d ≡ implicit f place
-  unfolding Defaults.body_by
-  implicit-view decl.Nothing k = absurd (miss implicitly 0 tt k)
-  implicit-view (decl.Simple start) k = absurd (miss implicitly 1 tt k)
-  implicit-view (decl.Subrange name start) k = absurd (miss implicitly 2 tt k)
-  implicit-view (decl.String start) k = absurd (miss implicitly 3 tt k)
-  implicit-view (decl.Array name first many) k = absurd (miss implicitly 4 tt k)
-  implicit-view (decl.Structure first many) k = absurd (miss implicitly 5 tt k)
-  implicit-view (decl.Reference name) k = absurd (miss implicitly 6 tt k)
-  implicit-view (decl.Enumeration name) k = refl
-  implicit-view (decl.LateBound name) k = refl
-  implicit-view (decl.FunctionBlock first many) k = absurd (miss implicitly 9 tt k)
-  implicit-view decl.Unknown k = absurd (miss implicitly 10 tt k)
-
-  pub body-implicit : {known store : List ℕ} {at : ℕ} {old : List ℕ} {r : Built} {new : List ℕ} (d : Declaration) → OneOf implicitly (tag_of the_type d)
-      → Builds f known store flatten (implicit f place) at old r new → Builds f known store flatten (body_by f t place d) at old r new
-  body-implicit d k h = same (implicit f place) (body_by f t place d) (implicit-view d k) h
-
 -- ---- `body`
 pub type-fits : {f : List ℕ} → Accepted f → {t : ℕ} → IsType f t → t < 2 ^ 32 - 1
 type-fits {f} a l = omega (arith, few-types f a)
@@ -295,9 +211,6 @@ module _ (f : List ℕ) (t : ℕ) {place : Place} (p : place ≡ place_of f t) w
     unfolding body_levels
     own_room at n h = rw (p, q) h
 
-    pub own_body : {known store : List ℕ} {at : ℕ} {old : List ℕ} {r : Built} {new : List ℕ} → Builds f known store flatten (body_by f t place d) at old r new → Builds f known store flatten (body f t) at old r new
-    unfolding Defaults.body
-    own_body h = same (body_by f t place d) (body f t) (rw (p, q)) h
+pub ruleset laws = (rules, opened, peek-nothing, structure-is, block-is, base-linked, string-value, start-in, type-fits)
 
-pub ruleset laws =
-    (rules, opened, block-parts, nothing-room, simple-room, subrange-room, string-room, array-room, entries-room, structure-room, block_room, reference-room, implicit-room, base-linked, subrange-spec, subrange-value, string-value, array-spec, array-in, structure-in, block_in, start-in, body-nothing, body-simple, body-subrange, body-string, body-array, body-structure, body-block, body-reference, body-unknown, body-implicit, type-fits, own-place, own_room, own_body)
+pub ruleset asked = (rules, subrange-room, array-room, entries-room, structure-room, block_room, reference-room, subrange-spec, subrange-value, array-spec, array-in, structure-in, block_in, own-place, own_room, type-fits)

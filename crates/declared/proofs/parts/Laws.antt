@@ -1,4 +1,4 @@
--- A law for each return of parts.rt, and what its calls require. Assumes nothing.
+-- The returns of parts.rt that computing does not close, and what its calls require. Assumes nothing.
 use mathlib.Core.Path.{◌≡◌, refl, ap, sym, ◌∙◌}
 use mathlib.Core.Bool.{Bool, true, false}
 use mathlib.Core.List.{List}
@@ -21,28 +21,29 @@ use Rattle.definition.specs.Parts.{field, is_instance}
 use Rattle.definition.specs.Starting.{initializer}
 use Rattle.laws.specs.Accepted.{Accepted, element-points}
 use Rattle.laws.specs.Depths.{deepest-at}
+use Rattle.laws.specs.Steps.{peek-nothing}
 use Rattle.laws.specs.Whole.{flatten-length, nodes-some}
 use Rattle.tree.proofs.Standing.{named-there}
 use Rattle.tree.proofs.Fields.{stands-long}
 use Rattle.places.specs.Inside.{PlaceIn, field_found}
 use Rattle.definition.specs.Ask.{result_of}
-use Rattle.build.specs.declared.built.Built.{Built}
-use Rattle.build.specs.declared.built.Built.TheVariants.{Ends, None, TooLarge}
-use Rattle.build.specs.Built.{Builds, Ready}
+use Rattle.build.specs.declared.built.Unbuilt.{Unbuilt}
+use Rattle.build.specs.declared.built.Unbuilt.TheVariants as unbuilt
+use Rattle.build.specs.Built.{Built, Builds, Ready}
 use Rattle.build.specs.Fields.{NamesField}
-use Rattle.build.proofs.Peeks.{then_peek, peek-then, NoEnd, ends-not, gives-fails, EndsAt, gives-ends, built-ends}
+use Rattle.build.proofs.Peeks.{then_peek, peek-then, gives-err, EndsAt, gives-ends, built-ends}
 use Rattle.build.proofs.defaults.Laws.{peek-named, peek-over, one-gives}
-use Rattle.initial.specs.Stated.{element_start, variable_start, part_start, is_part, part_ask, BuildsPart, PartIn}
+use Rattle.initial.specs.Stated.{element_start, part_start, is_part, part_ask, BuildsPart, PartIn}
 use Rattle.initial.specs.Rooms.{init_levels, variable_levels, element_levels, part_levels, parts_levels}
 use Rattle.initial.proofs.Alike.{same, no_value_lem, at-found, at_none}
-use Rattle.std.specs.Prelude.{None, Option, Some}
+use Rattle.std.specs.Prelude.{Err, None, Ok, Option, Some}
 
 -- ---- `element_start`
 module _ (f : List ℕ) (place : Place) (e : ℕ) {name : ℕ} (q : name ≡ word f elements e 0) (w : Option Place) (k : result_of w ≡ field_place f place name) where
   found-is : result_of w ≡ field_place f place (word f elements e 0)
   found-is = k ∙ ap (field_place f place) q
 
-  pub element-none : {known store : List ℕ} {at : ℕ} {old : List ℕ} → w ≡ None → Builds f known store flatten (element_start f place e) at old None old
+  pub element-none : {known store : List ℕ} {at : ℕ} {old : List ℕ} → w ≡ None → Builds f known store flatten (element_start f place e) at old (Err unbuilt.None) old
   unfolding element_start
   element-none z = no_value_lem (element_start f place e) (at_none (initializer f (word f elements e 1)) (field_place f place (word f elements e 0)) (sym found-is ∙ ap result_of z))
 
@@ -71,15 +72,6 @@ element-init f e j a l = rw j (element-points f a e l)
 
 -- ---- `part_start`
 module _ (f : List ℕ) (place : Place) (section k : ℕ) where
-  module _ {known store : List ℕ} {at : ℕ} {old : List ℕ} {r : Built} {new : List ℕ} where
-    pub part-element : section ≡ 7 → Builds f known store flatten (element_start f place k) at old r new → Builds f known store flatten (part_start f place section k) at old r new
-    unfolding part_start
-    part-element e h = same (element_start f place k) (part_start f place section k) (rw (eq-eqb section 7 e)) h
-
-    pub part-variable : (section ≡ 7 → ⊥) → Builds f known store flatten (variable_start f k) at old r new → Builds f known store flatten (part_start f place section k) at old r new
-    unfolding part_start
-    part-variable n h = same (variable_start f k) (part_start f place section k) (rw (ne_eqb section 7 n)) h
-
   pub part-element-room : (at n : ℕ) → section ≡ 7 → at + part_levels f place section k * 12288 ≤ n → at + element_levels f place k * 12288 ≤ n
   unfolding part_levels
   part-element-room at n e h = rw (eq-eqb section 7 e) at h
@@ -123,20 +115,21 @@ module _ (f : List ℕ) (place : Place) (section k : ℕ) {name : ℕ} (w : name
   unfolding part_ask
   peek-part M size = peek-then M (part_start f place section k) (field size (word f section k 0)) ∙ rw (← w)
 
-  module _ {known store : List ℕ} {at to : ℕ} {old : List ℕ} {r : Built} {mid : List ℕ} (x : Builds f known store flatten (part_start f place section k) to old r mid) where
-    pub part-fails : NoEnd r → BuildsPart f known store place section k at to old r mid
-    part-fails n =
+  module _ {known store : List ℕ} {at to : ℕ} {old : List ℕ} {r : Built} {mid : List ℕ} where
+    -- what `?` hands on
+    pub part-fails : {u : Unbuilt} → Builds f known store flatten (part_start f place section k) to old (Err u) mid → r ≡ Err u → BuildsPart f known store place section k at to old r mid
+    part-fails x q =
         record {
-          gives = λ size u M m. rw (peek-part M size) (gives-fails flatten_all to mid n (peek M (part_start f place section k)) (x.gives M m) _);
-          ends = λ e q. ends-not e (rw q at n);
+          gives = λ size u M m. rw (peek-part M size) (gives-err flatten_all to mid (peek M (part_start f place section k)) (x.gives M m) _ q);
+          ends = λ e z. let n : ◌≡◌ {A = ℕ} 0 1 = cc in absurd (omega arith);
           kept = x.kept;
         }
 
-    module _ {end : ℕ} (q : r ≡ Ends end) (h : at ≤ to) (l : to ≤ end) {r' : Built} {new : List ℕ} (y : NamesField at to end name mid r' new) where
+    module _ (x : Builds f known store flatten (part_start f place section k) to old r mid) {end : ℕ} (q : r ≡ Ok end) (h : at ≤ to) (l : to ≤ end) {r' : Built} {new : List ℕ} (y : NamesField at to end name mid r' new) where
       pub part-all : BuildsPart f known store place section k at to old r' new
       part-all = go (ltb tree_words (end - at)) refl y.says y.is
         where
-          go : (b : Bool) → ltb tree_words (end - at) ≡ b → r' ≡ pick b TooLarge (Ends end) → new ≡ pick b mid (set mid to name) → BuildsPart f known store place section k at to old r' new
+          go : (b : Bool) → ltb tree_words (end - at) ≡ b → r' ≡ pick b (Err unbuilt.TooLarge) (Ok end) → new ≡ pick b mid (set mid to name) → BuildsPart f known store place section k at to old r' new
           go true t s d =
               record {
                 gives = λ size u M m.
@@ -160,7 +153,7 @@ module _ (f : List ℕ) (place : Place) (section k : ℕ) {name : ℕ} (w : name
 
 -- where a default ends, a tree stands
 module _ {f known store : List ℕ} (y : Ready f known store)
-    {m : Ask Outcome} {to : ℕ} {old : List ℕ} {r : Built} {new : List ℕ} (x : Builds f known store flatten m to old r new) {end : ℕ} (q : r ≡ Ends end) where
+    {m : Ask Outcome} {to : ℕ} {old : List ℕ} {r : Built} {new : List ℕ} (x : Builds f known store flatten m to old r new) {end : ℕ} (q : r ≡ Ok end) where
   there : EndsAt flatten (peek y.memo m) to end new
   there = built-ends x y.memory q
 
@@ -182,4 +175,4 @@ unfolding parts_levels
 parts-head f place section first many at n h = omega arith
 
 pub ruleset laws =
-    (rules, element-none, element_place_lem, element-at, element-room, element-init, part-element, part-variable, part-element-room, part-variable-room, part-element-in, part-variable-in, is-element, is-low, is-high, part-fails, part-all, part-after, part-inside)
+    (rules, peek-nothing, element-none, element_place_lem, element-at, element-room, element-init, part-element-room, part-variable-room, part-element-in, part-variable-in, is-element, is-low, is-high, part-fails, part-all, part-after, part-inside)

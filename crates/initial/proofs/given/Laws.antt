@@ -1,15 +1,12 @@
 -- What `entries` answers, in the words of `build`. Assumes nothing.
 use borrow.Enum.Refused.{opened}
 use mathlib.Core.Path.{◌≡◌, refl, ap, sym, ◌∙◌}
-use mathlib.Core.List.{List, [], ◌∷◌}
+use mathlib.Core.List.{List}
 use Prim.Native.Nat.{ℕ, ◌+◌, ◌*◌, ◌≤◌}
 use native.Mathlib.Omega.{arith}
 use lib.ListN.{length}
 use borrow.Author.Rules.{rules}
 use borrow.Author.Tests.{le-leb, eq-eqb, ne_eqb}
-use types.Run.{OneOf, miss}
-use denote.Enum.Declared.{tag_of}
-use Rattle.tree.specs.contracts.part.Value.{the_type}
 use Rattle.definition.specs.declared.records.Place.{Place}
 use Rattle.definition.specs.Layout.{count, entries}
 use Rattle.definition.specs.Syntax.{inits_at}
@@ -29,17 +26,19 @@ use Rattle.tree.specs.declared.part.Value.TheVariants as value
 use Rattle.tree.specs.Part.{value_at, value_is}
 use Rattle.tree.proofs.Fields.{value_there, kind-structure, parts-stand}
 use Rattle.tree.proofs.Standing.{headed-there}
-use Rattle.build.specs.declared.built.Built.{Built}
-use Rattle.build.specs.declared.built.Built.TheVariants as built
-use Rattle.build.specs.Built.{Gives, Builds, Ready}
+use Rattle.build.specs.declared.built.Unbuilt.{Unbuilt}
+use Rattle.build.specs.declared.built.Unbuilt.TheVariants as unbuilt
+use Rattle.build.specs.Built.{Built, Gives, Builds, Ready}
 use Rattle.gather.specs.Answers as answers
 use Rattle.gather.specs.Room.{RoomThere, shapes_deep, rooms, Structure}
 use Rattle.entries.specs.Entries.{run_depth, FieldsThere, BuildsArray}
 use Rattle.entries.specs.Entries as entering
-use Rattle.gather.proofs.Single.{node_kept}
+use Rattle.build.proofs.leaves.Laws.{node_kept}
 use Rattle.initial.specs.Stated.{ArrayIn, MembersIn, SmallAt, Applies}
 use Rattle.initial.specs.Rooms.{entry_levels}
-use Rattle.std.specs.Prelude.{None, Option, Some}
+use Rattle.std.specs.Prelude.{Err, None, Ok, Option, Some}
+use Rattle.std.specs.Prelude as std
+use Rattle.std.specs.Option.{ok_or}
 
 -- ---- what `entries` asks of its arguments
 pub array-inside : {f : List ℕ} {first many : ℕ} → ArrayIn f first many → first + many ≤ count f entries
@@ -57,12 +56,12 @@ array-there f first many place {s} {at} h = record { room = room-is f first many
 
 -- ---- an answer
 gives_of : (M : Memo) (m : Ask Outcome) (at : ℕ) (r : Built) (s : List ℕ) → answers.Builds M m at r s → Gives flatten (peek M m) at r s
-gives_of M m at (built.Ends e) s h =
+gives_of M m at (Ok e) s h =
     let i : e ≡ at + length (flatten h.tree) = omega (arith, h.ends, flatten-length h.tree) in
-    rw h.is (record { says = ap built.Ends i; stands = rw i at h.stands })
-gives_of M m at built.None s h = rw h (record { says = refl; stands = tt })
-gives_of M m at built.TooLarge s h = rw h (record { says = refl; stands = tt })
-gives_of M m at (built.Wanted d) s h = rw h (record { says = refl; stands = tt })
+    rw h.is (record { says = ap Ok i; stands = rw i at h.stands })
+gives_of M m at (Err unbuilt.None) s h = rw h (record { says = refl; stands = tt })
+gives_of M m at (Err unbuilt.TooLarge) s h = rw h (record { says = refl; stands = tt })
+gives_of M m at (Err (unbuilt.Wanted d)) s h = rw h (record { says = refl; stands = tt })
 
 value-structure : (t : Tree) → (head t).kind ≡ 14 → value_is t ≡ value.Structure (many (parts t))
 unfolding value_is head parts
@@ -84,7 +83,7 @@ module _ {f known store : List ℕ} (y : Ready f known store) (place : Place) (f
 
   -- ---- `apply_members`
   module _ {end : ℕ} (z : SmallAt old at end) {v : Option Value} (q : v ≡ value_at old at) where
-    no-members : ((t : Tree) → Stand old at (flatten t) end → Good t → (head t).kind ≡ 14 → ⊥) → Applies f known store place first many at end old built.None old
+    no-members : ((t : Tree) → Stand old at (flatten t) end → Good t → (head t).kind ≡ 14 → ⊥) → Applies f known store place first many at end old (Err unbuilt.None) old
     no-members h =
         record {
           gives = λ t s x M k.
@@ -93,14 +92,20 @@ module _ {f known store : List ℕ} (y : Ready f known store) (place : Place) (f
           kept = refl;
         }
 
-    pub members-none : v ≡ None → Applies f known store place first many at end old built.None old
-    members-none i =
-        no-members (λ t x g c.
-        let y : None ≡ Some (value_is t) = sym i ∙ q ∙ value_there old at t end g x in
-        let w : ◌≡◌ {A = ℕ} 0 1 = cc in
-        omega arith)
+    -- what `?` hands on
+    pub members-none : {a : std.Result Value Unbuilt} → a ≡ ok_or v unbuilt.None → {u : Unbuilt} → a ≡ Err u → {r : Built} → r ≡ Err u → Applies f known store place first many at end old r old
+    members-none c {u} i {r} e = go v q (sym c ∙ i)
+      where
+        go : (v : Option Value) → v ≡ value_at old at → ok_or v unbuilt.None ≡ Err u → Applies f known store place first many at end old r old
+        go None k j =
+            let n : u ≡ unbuilt.None = cc in
+            rw (e, n) (no-members (λ t x g c.
+            let y : None ≡ Some (value_is t) = k ∙ value_there old at t end g x in
+            let w : ◌≡◌ {A = ℕ} 0 1 = cc in
+            omega arith))
+        go (Some w) k j = let n : ◌≡◌ {A = ℕ} 0 1 = cc in absurd (omega arith)
 
-    pub members-other : {w : Value} → v ≡ Some w → ((count : ℕ) → w ≡ value.Structure count → ⊥) → Applies f known store place first many at end old built.None old
+    pub members-other : {w : Value} → v ≡ Some w → ((count : ℕ) → w ≡ value.Structure count → ⊥) → Applies f known store place first many at end old (Err unbuilt.None) old
     members-other {w} i o =
         no-members (λ t x g c.
         let y : Some w ≡ Some (value_is t) = sym i ∙ q ∙ value_there old at t end g x in

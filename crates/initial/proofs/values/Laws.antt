@@ -1,5 +1,5 @@
 -- A law for each return of values.rt. Assumes nothing.
-use mathlib.Core.Path.{◌≡◌, refl, ap, sym, ◌∙◌}
+use mathlib.Core.Path.{◌≡◌, ap, sym, ◌∙◌}
 use mathlib.Core.List.{List}
 use Prim.Native.Nat.{ℕ, ◌<◌}
 use lib.Dec.{eqb}
@@ -19,12 +19,11 @@ use Rattle.definition.specs.Defaults as Defaults
 use Rattle.definition.specs.Starting.{constant_as}
 use Rattle.laws.specs.Steps.{peek-done, peek-give, peek-nothing}
 use Rattle.places.specs.Inside.{ShapeIn, PlaceIn}
-use Rattle.build.specs.declared.built.Built.{Built}
-use Rattle.build.specs.Built.{Puts}
-use Rattle.build.specs.declared.built.Built.TheVariants.{None}
+use Rattle.build.specs.Built.{Built, Puts}
+use Rattle.build.proofs.leaves.Laws.{leaf-puts}
 use Rattle.initial.specs.declared.values.Stated.{Stated}
 use Rattle.initial.specs.declared.values.Stated.TheVariants as stated
-use Rattle.initial.specs.Stated.{StatedIn, Lays, stated_as}
+use Rattle.initial.specs.Stated.{StatedIn, Lays}
 
 module _ {at : ℕ} {old : List ℕ} {r : Built} {new : List ℕ} {o : Outcome} (x : Puts flatten (got o) at old r new) where
   lays-done : (m : Ask Outcome) → m ≡ done o → Lays m at old r new
@@ -63,22 +62,4 @@ pub reference-named : (f : List ℕ) (x : ℕ) {w : ℕ} → w ≡ word f expres
 unfolding as_tree
 reference-named f x {w} i n c h = rw (← i, ne_eqb w 4 n, h)
 
--- ---- `stated_start`
-module _ (f : List ℕ) (place : Place) (n : ℕ) {what : Stated} {at : ℕ} {old : List ℕ} {r : Built} {new : List ℕ} where
-  pub stated-constant : what ≡ stated.Constant → Lays (constant_as f place n) at old r new → Lays (stated_as f what place n) at old r new
-  unfolding stated_as
-  stated-constant e h = rw e h
-
-  pub stated-enumerated : what ≡ stated.Enumerated → Lays (enumerated_as f place n) at old r new → Lays (stated_as f what place n) at old r new
-  unfolding stated_as
-  stated-enumerated e h = rw e h
-
-  pub stated-reference : what ≡ stated.Reference → Lays (reference_as f n) at old r new → Lays (stated_as f what place n) at old r new
-  unfolding stated_as
-  stated-reference e h = rw e h
-
-pub stated-nothing : (f : List ℕ) (place : Place) (n : ℕ) {what : Stated} {at : ℕ} {old : List ℕ} → what ≡ stated.Nothing → Lays (stated_as f what place n) at old None old
-unfolding stated_as
-stated-nothing f place n e = rw e (record { gives = λ M. rw (peek-nothing M) (record { says = refl; stands = tt }); kept = refl })
-
-pub ruleset laws = (rules, lays-constant, lays-enumerated, lays-reference, lays-null, stated-constant, stated-enumerated, stated-reference, stated-nothing, constant-inside, place-shape, reference-null, reference-named)
+pub ruleset laws = (rules, peek-nothing, leaf-puts, lays-constant, lays-enumerated, lays-reference, lays-null, constant-inside, place-shape, reference-null, reference-named)

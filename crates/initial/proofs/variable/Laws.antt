@@ -1,4 +1,4 @@
--- A law for each return of variable.rt, and what its calls require. Assumes nothing.
+-- The returns of variable.rt that computing does not close, and what its calls require. Assumes nothing.
 use mathlib.Core.Path.{◌≡◌, ap, ◌∙◌}
 use mathlib.Core.Bool.{Bool, true, false, ◌||◌}
 use mathlib.Core.List.{List}
@@ -16,13 +16,12 @@ use Rattle.definition.specs.Starting.{initializer, declaration}
 use Rattle.laws.specs.Accepted.{Accepted, variable-points}
 use Rattle.places.specs.Inside.{PlaceIn, variable-found}
 use Rattle.definition.specs.Ask.{result_of}
-use Rattle.build.specs.declared.built.Built.{Built}
-use Rattle.build.specs.declared.built.Built.TheVariants.{None}
-use Rattle.build.specs.Built.{Builds}
-use Rattle.initial.specs.Stated.{variable_start}
+use Rattle.laws.specs.Steps.{peek-nothing}
+use Rattle.build.specs.declared.built.Unbuilt.TheVariants as unbuilt
+use Rattle.build.specs.Built.{Built, Builds}
 use Rattle.initial.specs.Rooms.{init_levels, variable_levels}
 use Rattle.initial.proofs.Alike.{same, no_value_lem, at-found, at_none}
-use Rattle.std.specs.Prelude.{None, Option, Some}
+use Rattle.std.specs.Prelude.{Err, None, Option, Some}
 
 -- ---- `is_outside`
 module _ (f : List ℕ) (v : ℕ) {kind : ℕ} (i : kind ≡ word f variables v 1) where
@@ -34,16 +33,12 @@ module _ (f : List ℕ) (v : ℕ) {kind : ℕ} (i : kind ≡ word f variables v 
 
 -- ---- `declaration`
 module _ (f : List ℕ) (v : ℕ) {b : Bool} (o : b ≡ (eqb (word f variables v 1) 2 || eqb (word f variables v 1) 3)) where
-  pub declared-outside : {known store : List ℕ} {at : ℕ} {old : List ℕ} → b ≡ true → Builds f known store flatten (declaration f v) at old None old
-  unfolding Defaults.declaration
-  declared-outside e = no_value_lem (declaration f v) (rw (← o, e))
-
   module _ (e : b ≡ false) {i : ℕ} (q : i ≡ word f variables v 3) (w : Option Place) (k : result_of w ≡ variable_place f v i) where
     inside : declaration f v ≡ done (result_of w) >>= initializer f i
     unfolding Defaults.declaration
     inside = rw (← o, e, ← q, ← k)
 
-    pub declared-none : {known store : List ℕ} {at : ℕ} {old : List ℕ} → w ≡ None → Builds f known store flatten (declaration f v) at old None old
+    pub declared-none : {known store : List ℕ} {at : ℕ} {old : List ℕ} → w ≡ None → Builds f known store flatten (declaration f v) at old (Err unbuilt.None) old
     declared-none z = no_value_lem (declaration f v) (inside ∙ at_none (initializer f i) (result_of w) (ap result_of z))
 
     pub declared-at : {known store : List ℕ} {at : ℕ} {old : List ℕ} {r : Built} {new : List ℕ} {p : Place} → w ≡ Some p
@@ -65,15 +60,4 @@ module _ (f : List ℕ) (v : ℕ) {i : ℕ} (q : i ≡ word f variables v 3) whe
     pub variable-room : (at n : ℕ) → at + variable_levels f v * 12288 ≤ n → at + init_levels f i p * 12288 ≤ n
     variable-room at n h = rw levels at h
 
--- ---- `variable_start`
-module _ (f : List ℕ) (v : ℕ) {name : ℕ} (q : name ≡ word f variables v 0) where
-  pub variable-nameless : {known store : List ℕ} {at : ℕ} {old : List ℕ} → name ≡ 0 → Builds f known store flatten (variable_start f v) at old None old
-  unfolding variable_start
-  variable-nameless e = no_value_lem (variable_start f v) (rw (← q, eq-eqb name 0 e))
-
-  pub variable-named : {known store : List ℕ} {at : ℕ} {old : List ℕ} {r : Built} {new : List ℕ} → (name ≡ 0 → ⊥)
-      → Builds f known store flatten (declaration f v) at old r new → Builds f known store flatten (variable_start f v) at old r new
-  unfolding variable_start
-  variable-named n h = same (declaration f v) (variable_start f v) (rw (← q, ne_eqb name 0 n)) h
-
-pub ruleset laws = (rules, outside-yes, outside-other, declared-outside, declared-none, declared-at, variable-init, variable-place, variable-room, variable-nameless, variable-named)
+pub ruleset laws = (rules, peek-nothing, outside-yes, outside-other, declared-none, declared-at, variable-init, variable-place, variable-room)

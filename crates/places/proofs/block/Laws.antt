@@ -2,7 +2,7 @@
 use mathlib.Core.Path.{◌≡◌, refl, sym, ◌∙◌}
 use mathlib.Core.Bool.{Bool, true, false, not, ◌&&◌}
 use mathlib.Core.List.{List}
-use Prim.Native.Nat.{ℕ, suc, ◌+◌, ◌-◌, ◌^◌, ◌<◌}
+use Prim.Native.Nat.{ℕ, suc, ◌+◌, ◌-◌, ◌^◌, ◌<◌, ◌≤◌}
 use native.Mathlib.Omega.{arith}
 use native.Mathlib.Numerals.{add-one}
 use lib.Dec.{eqb, lit<}
@@ -20,10 +20,9 @@ use Rattle.laws.specs.Accepted.{Accepted, count_most, few-types, run_in_lem, typ
 use Rattle.laws.specs.Nearby.{near-block}
 use Rattle.laws.specs.Used.{IsType, leads-inside}
 use Rattle.records.proofs.Links.{a-link}
-use Rattle.std.specs.Prelude.{Option, Some, None}
-use Rattle.places.specs.declared.block.Run.{Run}
+use Rattle.std.specs.Prelude.{Some, None}
 use Rattle.places.specs.Found.{block_run}
-use Rattle.places.proofs.Steps.{Comes, goes_on, stops, ends}
+use Rattle.places.proofs.Steps.{Comes, starts_at, goes_further, stops_at, ends_at}
 
 -- ---- `has_block`
 pub has-block-is : (f : List ℕ) (t : ℕ) {w : ℕ} → w ≡ word f types t 9 → not (eqb w inline) ≡ has_block f t
@@ -32,27 +31,32 @@ has-block-is f t e = rw e
 
 -- ---- `recorded_block`
 module _ (f : List ℕ) (t : ℕ) where
-  pub recorded-starts : {n : ℕ} → n ≡ count f types → Comes (recorded_up_to f) n t (recorded_block f t)
+  -- n alias bases lead from t to x, and none of the types before x has a block record
+  abbrev pub Left : ℕ → ℕ → ℕ → Type 0
+  Left many n x = Comes (recorded_up_to f) (many - n) x (recorded_block f t)
+
+  pub recorded-starts : {many : ℕ} → many ≡ count f types → Left many 0 t
   unfolding recorded_block
-  recorded-starts e = record { same = rw e }
+  recorded-starts {many} e = starts_at (recorded_up_to f) many t (rw e)
 
-  pub none-recorded : 0 ≡ recorded_up_to f 0 t
-  unfolding recorded_up_to
-  none-recorded = refl
-
-  module _ {has : Bool} (is : has ≡ has_block f t) where
-    pub recorded-here : has ≡ true → (k : ℕ) → t + 1 ≡ recorded_up_to f (suc k) t
+  module _ {many n x : ℕ} (i : Left many n x) where
+    pub never_recorded : many ≤ n → 0 ≡ recorded_block f t
     unfolding recorded_up_to
-    recorded-here h k = rw (← is, h, add-one)
+    never_recorded l = ends_at i l refl
 
-    module _ (h : has ≡ false) {base : ℕ} (e : base ≡ word f types t 1) where
-      pub no-base : base ≡ 0 → (k : ℕ) → 0 ≡ recorded_up_to f (suc k) t
-      unfolding recorded_up_to alias_base
-      no-base z k = rw (← is, h, ← e, z)
+    module _ (l : n < many) {has : Bool} (is : has ≡ has_block f x) where
+      pub recorded-here : has ≡ true → x + 1 ≡ recorded_block f t
+      unfolding recorded_up_to
+      recorded-here h = stops_at i l (λ k. rw (← is, h, add-one))
 
-      pub recorded-next : (base ≡ 0 → ⊥) → (k : ℕ) → recorded_up_to f (suc k) t ≡ recorded_up_to f k (base - 1)
-      unfolding recorded_up_to alias_base
-      recorded-next n k = rw (← is, h, ← e) (sym (a-link 0 (recorded_up_to f k) base n refl))
+      module _ (h : has ≡ false) {base : ℕ} (e : base ≡ word f types x 1) where
+        pub no-base : base ≡ 0 → 0 ≡ recorded_block f t
+        unfolding recorded_up_to alias_base
+        no-base z = stops_at i l (λ k. rw (← is, h, ← e, z))
+
+        pub recorded-next : (base ≡ 0 → ⊥) → Left many (n + 1) (base - 1)
+        unfolding recorded_up_to alias_base
+        recorded-next m = goes_further i l (λ k. rw (← is, h, ← e) (sym (a-link 0 (recorded_up_to f k) base m refl)))
 
 -- ---- `block_field_type`
 -- a type's number leaves room for a link to it
@@ -96,5 +100,6 @@ module _ (f : List ℕ) (place : Place) (n : place.id ≡ 0 → ⊥) {b : ℕ} (
   pub run-of-block : (b ≡ 0 → ⊥) → {first many : ℕ} → first ≡ word f types (b - 1) 9 → many ≡ word f types (b - 1) 10 → Some (record { first = first; count = many }) ≡ block_run f place
   run-of-block m p q = let z : b ≡ suc (b - 1) = omega (arith, m) in rw (typed, z, p, q)
 
-pub ruleset laws =
-    (rules, has-block-is, recorded-starts, none-recorded, recorded-here, no-base, recorded-next, goes_on, stops, ends, type-fits, untyped, block-typed, block-fits, no-type, no_block, run-of-block)
+pub ruleset laws = (rules, has-block-is, type-fits, untyped, block-typed, block-fits, no-type, no_block, run-of-block)
+
+pub ruleset walking = (rules, recorded-starts, never_recorded, recorded-here, no-base, recorded-next)

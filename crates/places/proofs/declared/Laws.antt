@@ -6,10 +6,8 @@ use Prim.Native.Nat.{ℕ, zero, suc, ◌+◌, ◌-◌, ◌^◌, ◌<◌, ◌≤�
 use native.Mathlib.Omega.{arith}
 use native.Mathlib.Numerals.{add-one}
 use lib.Dec.{eqb, leb, lit<}
-use lib.ListN.{get_or, set, length-set}
-use lib.Seq.{get_or-set_same, get_or-set_other}
 use borrow.Author.Rules.{rules}
-use borrow.Author.Tests.{eq-eqb, ne_eqb, eqb-false, leb-true, le-leb, lt-leb}
+use borrow.Author.Tests.{eq-eqb, ne_eqb, eqb-false, leb-true}
 use Rattle.definition.specs.Base.{pick, on_link, inline}
 use Rattle.definition.specs.Layout.{word, count, types, elements, initializers, most_records, limits_of_records}
 use Rattle.definition.specs.Records.{alias_base, declaration_kind, initializer_kind, named_type}
@@ -20,7 +18,7 @@ use Rattle.laws.specs.Pointed.{DeclarationPointed, declaration-pointed, named-of
 use Rattle.laws.specs.Nearby.{structure-at, alias-target}
 use Rattle.laws.specs.Used.{IsType, leads-inside}
 use Rattle.records.proofs.Links.{a-link}
-use Rattle.places.proofs.Steps.{Comes, goes_on, stops, ends}
+use Rattle.places.proofs.Steps.{Comes, starts_at, goes_further, stops_at, ends_at}
 
 -- ---- `simple_target`
 module _ (f : List ℕ) (i : ℕ) {kind : ℕ} (is : kind ≡ word f initializers i 0) where
@@ -120,29 +118,34 @@ pub declared-fits : {f : List ℕ} {d : ℕ} → Accepted f → d ≡ declared_t
 declared-fits {f} a e n h = omega (arith, e, few-types f a, declared-most f (count f types), leb-true n 16 h)
 
 module _ (f : List ℕ) (name t : ℕ) where
-  pub declared-starts : {d : ℕ} → d ≡ declared_types f (count f types) → Comes (field_declaration_up_to f name) (d + 1) t (field_declaration f name t)
+  -- n aliases lead from t to x, and none of the types before x is a structure
+  abbrev pub Left : ℕ → ℕ → ℕ → Type 0
+  Left most n x = Comes (field_declaration_up_to f name) (most - n) x (field_declaration f name t)
+
+  pub declared-starts : {most d : ℕ} → d ≡ declared_types f (count f types) → most ≡ d + 1 → Left most 0 t
   unfolding field_declaration
-  declared-starts e = record { same = rw (e, add-one) }
+  declared-starts {most} e m = starts_at (field_declaration_up_to f name) most t (rw (m, e, add-one))
 
-  pub declared-ends : 0 ≡ field_declaration_up_to f name 0 t
-  unfolding field_declaration_up_to
-  declared-ends = refl
+  module _ {most n x : ℕ} (i : Left most n x) where
+    pub never_declared : most ≤ n → 0 ≡ field_declaration f name t
+    unfolding field_declaration_up_to
+    never_declared l = ends_at i l refl
 
-  module _ {kind : ℕ} (is : kind ≡ word f types t 4) where
-    pub declared-here : kind ≡ 5 → {r : ℕ}
-        → r ≡ on_link (first_named f elements name (word f types t 7) (word f types t 8)) 0 (λ e. suc (word f elements e 1))
-        → (k : ℕ) → r ≡ field_declaration_up_to f name (suc k) t
-    unfolding field_declaration_up_to declaration_kind
-    declared-here e h k = rw (← is, eq-eqb kind 5 e) h
-
-    module _ (n : kind ≡ 5 → ⊥) {g : ℕ} (h : g ≡ alias_target f t) where
-      pub no_target : g ≡ 0 → (k : ℕ) → 0 ≡ field_declaration_up_to f name (suc k) t
+    module _ (l : n < most) {kind : ℕ} (is : kind ≡ word f types x 4) where
+      pub declared-here : kind ≡ 5 → {r : ℕ}
+          → r ≡ on_link (first_named f elements name (word f types x 7) (word f types x 8)) 0 (λ e. suc (word f elements e 1))
+          → r ≡ field_declaration f name t
       unfolding field_declaration_up_to declaration_kind
-      no_target z k = rw (← is, ne_eqb kind 5 n, ← h, z)
+      declared-here e h = stops_at i l (λ k. rw (← is, eq-eqb kind 5 e) h)
 
-      pub target-next : (g ≡ 0 → ⊥) → (k : ℕ) → field_declaration_up_to f name (suc k) t ≡ field_declaration_up_to f name k (g - 1)
-      unfolding field_declaration_up_to declaration_kind
-      target-next m k = rw (← is, ne_eqb kind 5 n, ← h) (sym (a-link 0 (field_declaration_up_to f name k) g m refl))
+      module _ (m : kind ≡ 5 → ⊥) {g : ℕ} (h : g ≡ alias_target f x) where
+        pub no_target : g ≡ 0 → 0 ≡ field_declaration f name t
+        unfolding field_declaration_up_to declaration_kind
+        no_target z = stops_at i l (λ k. rw (← is, ne_eqb kind 5 m, ← h, z))
+
+        pub target-next : (g ≡ 0 → ⊥) → Left most (n + 1) (g - 1)
+        unfolding field_declaration_up_to declaration_kind
+        target-next z = goes_further i l (λ k. rw (← is, ne_eqb kind 5 m, ← h) (sym (a-link 0 (field_declaration_up_to f name k) g z refl)))
 
 pub kind-is : (f : List ℕ) (t : ℕ) {kind : ℕ} → kind ≡ word f types t 4 → kind ≡ 5 → declaration_kind f t ≡ 5
 unfolding declaration_kind
@@ -154,4 +157,6 @@ target-inside {f} a t h {g} e n =
     link-to (IsType f) (alias_target f t) (g - 1) (sym e ∙ z) (alias-target f (IsType f) (IsType f) (leads-inside f a) t h)
 
 pub ruleset laws =
-    (rules, inline-type, named-type, inline-element, named-element, elements-fit, no-element, an-element, element-fits, declared-fits, declared-starts, declared-ends, declared-here, no_target, target-next, kind-is, target-inside, target_below, target-above, target-named, alias-base, no-simple, no_start, simple-start, goes_on, stops, ends)
+    (rules, inline-type, named-type, inline-element, named-element, elements-fit, no-element, an-element, element-fits, target_below, target-above, target-named, alias-base, no-simple, no_start, simple-start)
+
+pub ruleset walking = (rules, declared-fits, declared-starts, never_declared, declared-here, no_target, target-next, kind-is, target-inside)

@@ -2,7 +2,7 @@
 use mathlib.Core.Path.{◌≡◌, refl, ap, sym, ◌∙◌}
 use mathlib.Core.Bool.{Bool, true, false}
 use mathlib.Core.List.{List}
-use Prim.Native.Nat.{ℕ, zero, suc, ◌+◌, ◌-◌, ◌<◌}
+use Prim.Native.Nat.{ℕ, zero, suc, ◌+◌, ◌-◌, ◌<◌, ◌≤◌}
 use native.Mathlib.Omega.{arith}
 use native.Mathlib.Numerals.{add-one}
 use borrow.Author.Rules.{rules}
@@ -23,7 +23,7 @@ use Rattle.laws.specs.Used.{IsType, leads-inside}
 use Rattle.records.proofs.Links.{no-link}
 use Rattle.places.specs.Inside.{PlaceIn, type-shape, element-shape, element-in}
 use Rattle.places.proofs.Others.{NoArray, no-array}
-use Rattle.places.proofs.Steps.{Comes, goes_on, stops, ends}
+use Rattle.places.proofs.Steps.{Comes, starts_at, goes_further, stops_at, ends_at}
 
 -- ---- `bare`, `place_of`
 pub bare-made : (s : Shape) → record { shape = s; id = 0; element = 0 } ≡ bare s
@@ -81,24 +81,31 @@ module _ (f : List ℕ) (place : Place) {other id : ℕ} (p : other ≡ on_link 
 
 -- ---- `leaf_place`
 module _ (f : List ℕ) (place : Place) where
-  pub leaf-starts : {n : ℕ} → n ≡ count f shapes → Comes (innermost f) n place (leaf_place f place)
+  -- x is n arrays deep in the place
+  abbrev pub Left : ℕ → ℕ → Place → Type 0
+  Left many n x = Comes (innermost f) (many - n) x (leaf_place f place)
+
+  pub leaf-starts : {many : ℕ} → many ≡ count f shapes → Left many 0 place
   unfolding leaf_place
-  leaf-starts e = record { same = rw e }
+  leaf-starts {many} e = starts_at (innermost f) many place (rw e)
 
-  pub leaf-ends : place ≡ innermost f 0 place
-  unfolding innermost
-  leaf-ends = refl
+  module _ {many n : ℕ} {x : Place} (i : Left many n x) where
+    pub leaf-ends : many ≤ n → x ≡ leaf_place f place
+    unfolding innermost
+    leaf-ends l = ends_at i l refl
 
-  pub leaf-next : {s first many : ℕ} → place.shape ≡ shape.Array s first many → {r : Place} → r ≡ element_place f place s → (k : ℕ) → innermost f (suc k) place ≡ innermost f k r
-  unfolding innermost
-  leaf-next e h k = ap (λ s. on_array s place (λ s first count. innermost f k (element_place f place s))) e ∙ ap (innermost f k) (sym h)
+    module _ (l : n < many) where
+      pub leaf-here : NoArray x.shape → x ≡ leaf_place f place
+      unfolding innermost
+      leaf-here h = stops_at i l (λ k. no-array x x.shape _ h)
 
-  pub leaf-made : Accepted f → PlaceIn f place → {s first many : ℕ} → place.shape ≡ shape.Array s first many → {r : Place} → r ≡ element_place f place s → PlaceIn f r
-  leaf-made a i {s} e h = rw h (element-in f a place s i (element-shape i e))
+      pub leaf-next : {s first count : ℕ} → x.shape ≡ shape.Array s first count → {r : Place} → r ≡ element_place f x s → Left many (n + 1) r
+      unfolding innermost
+      leaf-next e h = goes_further i l (λ k. ap (λ s. on_array s x (λ s first count. innermost f k (element_place f x s))) e ∙ ap (innermost f k) (sym h))
 
-  pub leaf-here : NoArray place.shape → (k : ℕ) → place ≡ innermost f (suc k) place
-  unfolding innermost
-  leaf-here h k = no-array place place.shape _ h
+pub leaf-made : {f : List ℕ} {place : Place} → Accepted f → PlaceIn f place → {s first many : ℕ} → place.shape ≡ shape.Array s first many → {r : Place} → r ≡ element_place f place s → PlaceIn f r
+leaf-made {f} {place} a i {s} e h = rw h (element-in f a place s i (element-shape i e))
 
-pub ruleset laws =
-    (rules, no-link, bare-made, place-made, own-inside, own-kept, own-left, element-is, typed-made, element-made, element-linked, element-shape, leaf-starts, leaf-ends, leaf-next, leaf-made, leaf-here, goes_on, stops, ends)
+pub ruleset laws = (rules, no-link, bare-made, place-made, own-inside, own-kept, own-left, element-is, typed-made, element-made, element-linked)
+
+pub ruleset walking = (rules, element-shape, leaf-starts, leaf-ends, leaf-here, leaf-next, leaf-made)

@@ -1,7 +1,7 @@
 -- A law for each return of values.rt, and what its calls require. Assumes nothing.
 use mathlib.Core.Path.{◌≡◌, refl, ap, ◌∙◌}
 use mathlib.Core.List.{List, [], ◌∷◌}
-use Prim.Native.Nat.{ℕ, zero, suc, ◌+◌, ◌-◌, ◌*◌, ◌^◌, ◌≤◌, ◌<◌}
+use Prim.Native.Nat.{ℕ, zero, suc, ◌+◌, ◌-◌, ◌*◌, ◌≤◌, ◌<◌}
 use native.Mathlib.Omega.{arith}
 use lib.ListN.{length, get_or, take, drop, length-drop}
 use lib.Seq.{length-take-le, get_or-take, get_or-drop}
@@ -20,8 +20,6 @@ use Rattle.definition.specs.Ask.{Result, none, Outcome}
 use Rattle.definition.specs.Scalar.{converted, as_tree, constant_value, built_in, enumerated_value}
 use Rattle.laws.specs.Bits.{Bits}
 use Rattle.laws.specs.Accepted.{Accepted}
-use Rattle.records.specs.Starts.{StartsOf}
-use Rattle.records.proofs.Starting.{start-most}
 use Rattle.scalar.specs.Convert.{Bounds, Counts, converted_by, converted-is}
 use Rattle.scalar.specs.Default.{implicit_by, implicit-is}
 use Rattle.scalar.specs.Members.{Run, enumerated_by, enumerated-is}

@@ -4,7 +4,7 @@ use mathlib.Core.Logic.{inl, inr}
 use mathlib.Core.List.{List, [], ◌∷◌}
 use Prim.Native.Nat.{ℕ, ◌≤◌, ◌<◌}
 use borrow.Author.Rules.{rules}
-use borrow.Author.Tests.{lt-ltb, le-ltb, ne_eqb}
+use borrow.Author.Tests.{lt-ltb, le-ltb}
 use types.Run.{OneOf, miss}
 use denote.Enum.Declared.{tag_of}
 use Rattle.definition.specs.contracts.records.Shape.{the_type}
@@ -19,14 +19,6 @@ use Rattle.scalar.specs.String.{cut_by}
 use Rattle.scalar.proofs.string.Laws.{none-counted}
 use Rattle.scalar.specs.Default.{implicit_by}
 use Rattle.scalar.proofs.NoScalar.{no_scalars, no-scalar}
-
-pub is-long : {bits : ℕ} → bits ≡ 64 → 1 ≡ long bits
-unfolding long
-is-long e = rw e
-
-pub is-short : {bits : ℕ} → (bits ≡ 64 → ⊥) → 0 ≡ long bits
-unfolding long
-is-short n = rw (ne_eqb _ _ n)
 
 pub zero-tree : (kind width : ℕ) → as_tree (ok (record { kind = kind; sign = 0; low = 0; high = 0; width = width })) ≡ zero_of kind width
 unfolding as_tree zero_of constant_of
@@ -115,4 +107,4 @@ module _ (s : Shape) (least : Constant) (member setting : ℕ) where
         unfolding implicit_by
         from-date-and-time e h = rw (e, ← w) h
 
-pub ruleset laws = (rules, none-counted, is-long, is-short, zero-tree, integer-tree, from-other, from-string, from-reference, from-enumeration, past-members, from_bool, from-subrange, from_int, from-uint, from-real, from_bytes, from-time, from-date, from-time-of-day, from-date-and-time)
+pub ruleset laws = (rules, none-counted, zero-tree, integer-tree, from-other, from-string, from-reference, from-enumeration, past-members, from_bool, from-subrange, from_int, from-uint, from-real, from_bytes, from-time, from-date, from-time-of-day, from-date-and-time)

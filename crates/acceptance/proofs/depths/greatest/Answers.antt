@@ -1,15 +1,32 @@
 -- `depths::greatest` meets its contract. Assumes nothing.
-use mathlib.Core.Path.{sym}
+use mathlib.Core.Path.{refl}
 use native.Mathlib.Omega.{arith}
+use mathlib.Core.List.{◌++◌}
+use lib.ListN.{drop, length-set}
 use lib.Seq.{length-take-le}
-use Rattle.records.proofs.Filling.{zeroed-again}
+use borrow.Author.Rules.{rules}
+use Rattle.records.proofs.Filling.{none_filled, one-filled, all-filled, filled-part, zeroed-again}
+use Rattle.acceptance.proofs.Nests.{none-met, one-met}
 use Rattle.acceptance.proofs.depths.greatest.Goals as goal
 
-pub slice_bounds-deepest-end-2 : goal.slice_bounds-deepest-end-2
-slice_bounds-deepest-end-2 c = sym (length-take-le _ _ (omega arith))
+pub loop-n-init : goal.loop-n-init
+loop-n-init g c = (omega arith, refl, λ d h. (none_filled d _, none-met))
+
+pub loop-n-preserved : goal.loop-n-preserved
+loop-n-preserved g c =
+    let i = c.loop-n.invariant in (
+      search rules,
+      simp length-set (search rules),
+      λ d h.
+          let k = i.2 d h in
+          let r = h.found _ _ _ (search rules) (filled-part k.0) c.depth-own.ensures in
+          (one-filled k.0 (omega arith) r, one-met k.1 r (search rules)),
+    )
 
 pub returns-clause-cleared : goal.returns-clause-cleared
-returns-clause-cleared c =
-    let zeros = c.fill-2.ensures.after (λ y e. e) in
-    let long = length-take-le c.count_of-many.result c.fill.new.words (omega arith) in
-    zeroed-again c.fill.ensures (rw (zeros, long)) c.requires.1
+returns-clause-cleared g c =
+    let l = c.loop-n in
+    let filled = (l.invariant.2 c.requires.2.0 c.requires.2.1).0 in
+    let zeros = c.fill.ensures.after (λ y e. e) in
+    let long = length-take-le c.args.many l.words (omega arith) in
+    zeroed-again {last = c.fill.new.self ++ drop c.args.many l.words} (all-filled filled c.args.many (omega arith) (omega arith)) (rw (zeros, long)) c.requires.1

@@ -1,18 +1,16 @@
 -- `depths::levels` meets its contract. Assumes nothing.
-use mathlib.Core.Path.{◌∙◌}
-use native.Mathlib.Omega.{arith}
-use Rattle.acceptance.specs.Nesting.{count_of}
-use Rattle.acceptance.proofs.Nests.{levels-fit, leveling}
+use borrow.Author.Rules.{rules}
+use Rattle.acceptance.proofs.Nests.{entries-found, shapes-found, sum_fits, levels_fit, leveling}
 use Rattle.acceptance.proofs.depths.levels.Goals as goal
 
+pub greatest-entries-requires : goal.greatest-entries-requires
+greatest-entries-requires c = (search rules, search rules, entries-found c.args.file.now.accepted (search rules) (search rules) (search rules))
+
+pub greatest-shapes-requires : goal.greatest-shapes-requires
+greatest-shapes-requires c = (search leveling, search leveling, shapes-found c.args.file.now.accepted (search rules) (search rules) (search rules))
+
 pub overflow_add-result : goal.overflow_add-result
-unfolding count_of
-overflow_add-result c = let f = c.args.file.now in omega (arith, levels-fit f.source c.greatest-entries.ensures.is c.greatest-shapes.ensures.is f.accepted)
+overflow_add-result c = let f = c.args.file.now in sum_fits f.source (search leveling) (search leveling) f.accepted
 
 pub overflow_add-result-2 : goal.overflow_add-result-2
-unfolding count_of
-overflow_add-result-2 c = let f = c.args.file.now in omega (arith, levels-fit f.source c.greatest-entries.ensures.is c.greatest-shapes.ensures.is f.accepted)
-
-pub returns : goal.returns
-unfolding count_of
-returns c = record { is = search leveling; cleared = c.greatest-shapes.ensures.cleared ∙ c.greatest-entries.ensures.cleared }
+overflow_add-result-2 c = let f = c.args.file.now in levels_fit f.source (search leveling) (search leveling) f.accepted

@@ -2,8 +2,9 @@
 use native.Mathlib.Omega.{arith}
 use Rattle.build.proofs.Levels.{levels-some}
 use Rattle.build.proofs.Smalls.{default-whole, default-after}
-use Rattle.build.proofs.Gathers.{so-far-none, so_far_skip, so-far-fails, so_far_more}
-use Rattle.build.proofs.defaults.Laws.{laws, inner-in, element-all, field_in, field-all}
+use Rattle.build.proofs.Gathers.{so-far-none, so_far_skip, so-far-all, so-far-fails, so_far_more}
+use Rattle.build.proofs.defaults.Laws.{laws, inner-in, element-fails, element-all, field_in, field-fails, field-all}
+use borrow.Author.Rules.{rules}
 use Rattle.build.proofs.defaults.+defaults_of_places.Goals as goal
 
 pub default_of-returns-then-id-eq0 : goal.default_of-returns-then-id-eq0
@@ -15,80 +16,86 @@ default_of-type_default-requires t c = search laws
 pub default_of-returns : goal.default_of-returns
 default_of-returns t c = search laws
 
-pub element_defaults-default_of-r-requires : goal.element_defaults-default_of-r-requires
-element_defaults-default_of-r-requires t c = search laws
+pub element_defaults-default_of-requires : goal.element_defaults-default_of-requires
+element_defaults-default_of-requires t c = search laws
 
-pub element_defaults-returns-in_default : goal.element_defaults-returns-in_default
-element_defaults-returns-in_default t c = search laws
+pub element_defaults-returns-in_err-end : goal.element_defaults-returns-in_err-end
+element_defaults-returns-in_err-end t c =
+    let s = c in
+    element-fails c.args.file.now.source c.args.place c.requires.2 c.element_place-inner.ensures c.args.at c.in_err-end.ensures (search rules)
 
 pub element_defaults-spread-requires : goal.element_defaults-spread-requires
 element_defaults-spread-requires t c =
     let s = c in
     let k = inner-in c.args.file.now.source c.args.place c.requires.2 c.element_place-inner.ensures c.requires.0.accepted c.requires.1 in (
-      default-whole c.requires.0 k c.default_of-r.ensures c.in-Ends.is,
+      default-whole c.requires.0 k c.default_of.ensures c.in_ok-end.was,
       omega (arith, c.requires),
     )
 
 pub element_defaults-returns : goal.element_defaults-returns
 element_defaults-returns t c =
     let s = c in
-    element-all c.args.file.now.source c.args.place c.requires.2 c.element_place-inner.ensures c.args.at c.default_of-r.ensures
-    c.requires.0.accepted c.requires.1 c.in-Ends.is c.spread.ensures
+    element-all c.args.file.now.source c.args.place c.requires.2 c.element_place-inner.ensures c.args.at c.default_of.ensures
+    c.requires.0.accepted c.requires.1 c.in_ok-end.was c.spread.ensures
 
-pub field_default-default_of-r-requires : goal.field_default-default_of-r-requires
-field_default-default_of-r-requires t c = search laws
+pub field_default-default_of-requires : goal.field_default-default_of-requires
+field_default-default_of-requires t c = search laws
 
-pub field_default-returns-in_default : goal.field_default-returns-in_default
-field_default-returns-in_default t c = search laws
+pub field_default-returns-in_err-end-in-Some : goal.field_default-returns-in_err-end-in-Some
+field_default-returns-in_err-end-in-Some t c =
+    let s = c in
+    field-fails c.args.file.now.source c.args.place c.args.name c.field_place.result c.field_place.ensures c.in-Some.is c.in_err-end-in-Some.ensures (search rules)
 
 pub field_default-name_field-requires : goal.field_default-name_field-requires
 field_default-name_field-requires t c =
     let s = c in
     let k = field_in c.args.file.now.source c.args.place c.args.name c.field_place.result c.field_place.ensures c.in-Some.is c.requires.0.accepted c.requires.1 in (
       c.requires.2,
-      default-after c.requires.0 k c.default_of-r.ensures c.in-Ends.is,
+      default-after c.requires.0 k c.default_of.ensures c.in_ok-end-in-Some.was,
       omega (arith, levels-some c.args.file.now.source c.args.place, c.requires),
     )
 
-pub field_default-returns-in-Ends : goal.field_default-returns-in-Ends
-field_default-returns-in-Ends t c =
+pub field_default-returns-in_ok-end-in-Some : goal.field_default-returns-in_ok-end-in-Some
+field_default-returns-in_ok-end-in-Some t c =
     let s = c in
     let e = c.in-Some.is in
     let k = field_in c.args.file.now.source c.args.place c.args.name c.field_place.result c.field_place.ensures e c.requires.0.accepted c.requires.1 in
-    field-all c.args.file.now.source c.args.place c.args.name c.field_place.result c.field_place.ensures e c.default_of-r.ensures
-    c.in-Ends.is c.requires.2 (default-after c.requires.0 k c.default_of-r.ensures c.in-Ends.is) c.name_field.ensures
+    field-all c.args.file.now.source c.args.place c.args.name c.field_place.result c.field_place.ensures e c.default_of.ensures
+    c.in_ok-end-in-Some.was c.requires.2 (default-after c.requires.0 k c.default_of.ensures c.in_ok-end-in-Some.was) c.name_field.ensures
 
 pub field_default-returns-in-None : goal.field_default-returns-in-None
 field_default-returns-in-None t c = search laws
 
-pub fields-loop-left-init : goal.fields-loop-left-init
-fields-loop-left-init t c =
+pub fields-loop-k-init : goal.fields-loop-k-init
+fields-loop-k-init t c =
     let s = c.args in
     so-far-none s.file.now.source s.known.now s.store.now s.place s.section s.first s.many s.at s.room.now (omega (arith, levels-some s.file.now.source s.place, c.requires))
 
-pub fields-loop-left-preserved-then-not-is_listed : goal.fields-loop-left-preserved-then-not-is_listed
-fields-loop-left-preserved-then-not-is_listed t c =
+pub fields-returns-in_err-to : goal.fields-returns-in_err-to
+fields-returns-in_err-to t c =
     let s = c.args in
-    so_far_skip s.file.now.source s.known.now s.store.now s.place s.section s.first s.many s.at s.room.now c.loop-left.invariant c.is_listed.ensures c.if-not-is_listed.true c.loop-left-test.true
+    so-far-fails s.file.now.source s.known.now s.store.now s.place s.section s.first s.many s.at s.room.now c.loop-k.invariant c.is_listed.ensures c.if-not-is_listed.false c.loop-k-test.true c.word-name.ensures c.in_err-to.ensures (search rules)
 
-pub fields-field_default-r-requires : goal.fields-field_default-r-requires
-fields-field_default-r-requires t c =
+pub fields-loop-k-preserved-then-not-is_listed : goal.fields-loop-k-preserved-then-not-is_listed
+fields-loop-k-preserved-then-not-is_listed t c =
+    let s = c.args in
+    so_far_skip s.file.now.source s.known.now s.store.now s.place s.section s.first s.many s.at s.room.now c.loop-k.invariant c.is_listed.ensures c.if-not-is_listed.true c.loop-k-test.true
+
+pub fields-loop-k-preserved : goal.fields-loop-k-preserved
+fields-loop-k-preserved t c =
+    let s = c.args in
+    so_far_more s.file.now.source s.known.now s.store.now s.place s.section s.first s.many s.at s.room.now c.loop-k.invariant c.is_listed.ensures c.if-not-is_listed.false c.loop-k-test.true c.word-name.ensures c.field_default.ensures c.in_ok-to.was c.field_default.auto.room
+
+pub fields-field_default-requires : goal.fields-field_default-requires
+fields-field_default-requires t c =
     let s = c in
-    let i = c.loop-left.invariant in
+    let i = c.loop-k.invariant in
     (omega (arith, c.decreases), (c.requires.0, c.requires.1, omega (arith, i.after), i.within, omega (arith, i.long, c.requires)))
 
-pub fields-returns-in_default : goal.fields-returns-in_default
-fields-returns-in_default t c =
-    let s = c.args in
-    so-far-fails s.file.now.source s.known.now s.store.now s.place s.section s.first s.many s.at s.room.now c.loop-left.invariant c.is_listed.ensures c.if-not-is_listed.false c.loop-left-test.true c.word-name.ensures c.field_default-r.ensures c.in_default.not-Ends
-
-pub fields-loop-left-preserved : goal.fields-loop-left-preserved
-fields-loop-left-preserved t c =
-    let s = c.args in
-    so_far_more s.file.now.source s.known.now s.store.now s.place s.section s.first s.many s.at s.room.now c.loop-left.invariant c.is_listed.ensures c.if-not-is_listed.false c.loop-left-test.true c.word-name.ensures c.field_default-r.ensures c.in-Ends.is c.field_default-r.auto.room
-
 pub fields-returns : goal.fields-returns
-fields-returns t c = search laws
+fields-returns t c =
+    let s = c.args in
+    so-far-all s.file.now.source s.known.now s.store.now s.place s.section s.first s.many s.at s.room.now c.loop-k.invariant (search rules) c.head_structure.ensures
 
 pub implicit-fields-requires : goal.implicit-fields-requires
 implicit-fields-requires t c = search laws

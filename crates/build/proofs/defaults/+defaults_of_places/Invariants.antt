@@ -16,13 +16,9 @@ decreases-field_default l = 4 * implicit_levels l.file.now.source l.place
 abbrev pub decreases-fields : goal.decreases-fields
 decreases-fields l = 4 * implicit_levels l.file.now.source l.place + 1
 
-abbrev pub invariant-fields-loop-left : goal.invariant-fields-loop-left
-invariant-fields-loop-left l =
-    SoFar l.file.source l.known l.store l.place l.section l.first l.many l.at l.initial.room l.k l.left l.made l.to l.room
-
-abbrev pub decreases-fields-loop-left : goal.decreases-fields-loop-left
-decreases-fields-loop-left l =
-    l.left
+abbrev pub invariant-fields-loop-k : goal.invariant-fields-loop-k
+invariant-fields-loop-k l =
+    SoFar l.file.source l.known l.store l.place l.section l.first l.many l.at l.initial.room l.k l.made l.to l.room
 
 abbrev pub decreases-implicit : goal.decreases-implicit
 decreases-implicit l = 4 * implicit_levels l.file.now.source l.place + 2

@@ -1,9 +1,10 @@
 -- `leaves::put_leaf` meets its contract. Assumes nothing.
-use Rattle.build.proofs.leaves.Laws.{laws}
+use borrow.Author.Rules.{rules}
+use Rattle.build.proofs.leaves.Laws.{leaf-put, leaf-none}
 use Rattle.build.proofs.leaves.put_leaf.Goals as goal
 
-pub returns-in-Some-write_leaf : goal.returns-in-Some-write_leaf
-returns-in-Some-write_leaf c = search laws
+pub returns-in_err-c : goal.returns-in_err-c
+returns-in_err-c c = leaf-none c.ok_or.ensures.value c.in_err-c.was (search rules)
 
-pub returns-in-None : goal.returns-in-None
-returns-in-None c = search laws
+pub returns : goal.returns
+returns c = leaf-put c.ok_or.ensures.value c.in_ok-c.was c.write_leaf.ensures c.ok_or-2.ensures.value

@@ -2,18 +2,6 @@
 use Rattle.declared.proofs.parts.Laws.{laws, element_place_lem, element-init, element-room}
 use Rattle.declared.proofs.parts.element_start.Goals as goal
 
-pub word-name-requires : goal.word-name-requires
-word-name-requires c = search laws
-
-pub field_place-requires : goal.field_place-requires
-field_place-requires c = search laws
-
-pub enum_known-inner : goal.enum_known-inner
-enum_known-inner c = search laws
-
-pub word-i-requires : goal.word-i-requires
-word-i-requires c = search laws
-
 pub initializer-requires : goal.initializer-requires
 initializer-requires c =
     let a = c.requires.0.accepted in
@@ -24,14 +12,8 @@ initializer-requires c =
       element-room c.args.file.now.source c.args.place c.args.e c.word-name.ensures w.result w.ensures c.in-Some.is c.word-i.ensures c.args.at _ c.requires.3,
     )
 
-pub enum_told-1 : goal.enum_told-1
-enum_told-1 c = search laws
-
-pub shape_of-room : goal.shape_of-room
-shape_of-room c = search laws
+pub returns-in-Some : goal.returns-in-Some
+returns-in-Some c = search laws
 
 pub returns-in-None : goal.returns-in-None
 returns-in-None c = search laws
-
-pub returns-in-Some : goal.returns-in-Some
-returns-in-Some c = search laws

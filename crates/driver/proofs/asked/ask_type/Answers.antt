@@ -1,5 +1,5 @@
 -- `asked::ask_type` meets its contract. Assumes nothing.
-use Rattle.driver.proofs.Asking.{held-fresh, asks}
+use Rattle.driver.proofs.Asking.{held-fresh}
 use borrow.Author.Rules.{rules}
 use Rattle.driver.proofs.asked.ask_type.Goals as goal
 

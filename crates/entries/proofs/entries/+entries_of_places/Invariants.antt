@@ -3,7 +3,7 @@ use Rattle.definition.specs.Base.{on_link}
 use Rattle.definition.specs.Depth.{deepest, entry_depth}
 use Rattle.entries.proofs.Nesting.{AllInv}
 use Rattle.entries.proofs.Building.{ApplyInv}
-use Prim.Native.Nat.{◌+◌, ◌*◌, ◌-◌}
+use Prim.Native.Nat.{◌+◌, ◌*◌}
 use Rattle.entries.proofs.entries.+entries_of_places.Given as goal
 
 abbrev pub decreases-apply_members : goal.decreases-apply_members
@@ -12,10 +12,6 @@ decreases-apply_members l = 16 * deepest (entry_depth l.file.now.source) l.first
 abbrev pub invariant-apply_members-loop-i : goal.invariant-apply_members-loop-i
 invariant-apply_members-loop-i l =
     ApplyInv l.file.source l.known l.store l.first l.count l.place l.initial.room l.at l.end l.i l.upto l.room
-
-abbrev pub decreases-apply_members-loop-i : goal.decreases-apply_members-loop-i
-decreases-apply_members-loop-i l =
-    l.count - l.i
 
 abbrev pub decreases-array : goal.decreases-array
 decreases-array l = 16 * deepest (entry_depth l.file.now.source) l.first l.count + 10
@@ -28,11 +24,7 @@ decreases-expand_all l = 16 * deepest (entry_depth l.file.now.source) l.first l.
 
 abbrev pub invariant-expand_all-loop-i : goal.invariant-expand_all-loop-i
 invariant-expand_all-loop-i l =
-    AllInv l.file.source l.known l.store l.first l.count l.leaf l.l l.initial.room l.at l.i l.from l.to l.made l.size l.room
-
-abbrev pub decreases-expand_all-loop-i : goal.decreases-expand_all-loop-i
-decreases-expand_all-loop-i l =
-    l.count - l.i
+    AllInv l.file.source l.known l.store l.first l.count l.leaf l.l l.initial.room l.at l.i l.from l.done l.room
 
 abbrev pub decreases-fill : goal.decreases-fill
 decreases-fill l = 16 * deepest (entry_depth l.file.now.source) l.first l.count + 9

@@ -1,15 +1,10 @@
 -- `copies::array_head` meets its contract. Assumes nothing.
-use Rattle.gather.proofs.Arrays.{laws}
+use borrow.Author.Rules.{rules}
+use Rattle.gather.proofs.Arrays.{heads-ends, heads-fails}
 use Rattle.gather.proofs.copies.array_head.Goals as goal
 
-pub returns-in-Ends : goal.returns-in-Ends
-returns-in-Ends c = search laws
+pub returns-in_err-values : goal.returns-in_err-values
+returns-in_err-values c = heads-fails c.args.at c.args.from c.in_err-values.was (search rules)
 
-pub returns-in-None : goal.returns-in-None
-returns-in-None c = search laws
-
-pub returns-in-TooLarge : goal.returns-in-TooLarge
-returns-in-TooLarge c = search laws
-
-pub returns-in-Wanted : goal.returns-in-Wanted
-returns-in-Wanted c = search laws
+pub returns : goal.returns
+returns c = heads-ends c.args.at c.args.from c.in_ok-values.was c.put_head.ensures

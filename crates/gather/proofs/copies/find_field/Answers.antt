@@ -2,11 +2,8 @@
 use Rattle.gather.proofs.Members.{laws}
 use Rattle.gather.proofs.copies.find_field.Goals as goal
 
-pub returns-in-Some-field_place : goal.returns-in-Some-field_place
-returns-in-Some-field_place c = search laws
+pub returns-in_err-inner : goal.returns-in_err-inner
+returns-in_err-inner c = search (laws, c.in_ok-span.was, c.in_err-inner.was)
 
-pub returns-in-None : goal.returns-in-None
-returns-in-None c = search laws
-
-pub returns-in-None-field_place : goal.returns-in-None-field_place
-returns-in-None-field_place c = search laws
+pub returns : goal.returns
+returns c = search (laws, c.in_ok-span.was, c.in_ok-inner.was)

@@ -1,15 +1,10 @@
 -- `copies::push_copies` meets its contract. Assumes nothing.
-use Rattle.gather.proofs.Copying.{lists}
+use borrow.Author.Rules.{rules}
+use Rattle.gather.proofs.Copying.{copies-ends, copies-fails}
 use Rattle.gather.proofs.copies.push_copies.Goals as goal
 
-pub returns-in-Ends : goal.returns-in-Ends
-returns-in-Ends c = search lists
+pub returns-in_err-values : goal.returns-in_err-values
+returns-in_err-values c = copies-fails c.args.times c.args.l c.in_err-values.was (search rules)
 
-pub returns-in-None : goal.returns-in-None
-returns-in-None c = search lists
-
-pub returns-in-TooLarge : goal.returns-in-TooLarge
-returns-in-TooLarge c = search lists
-
-pub returns-in-Wanted : goal.returns-in-Wanted
-returns-in-Wanted c = search lists
+pub returns : goal.returns
+returns c = copies-ends c.args.times c.args.l c.in_ok-values.was c.copy_list.ensures

@@ -2,9 +2,6 @@
 use Rattle.memory.proofs.Placing.{placing}
 use Rattle.memory.proofs.place.lay_variable.Goals as goal
 
-pub shape_classes-requires : goal.shape_classes-requires
-shape_classes-requires c = search placing
-
 pub lay_out-requires : goal.lay_out-requires
 lay_out-requires c = search placing
 

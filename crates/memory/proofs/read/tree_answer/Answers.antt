@@ -18,29 +18,26 @@ pub returns-in_err-file-clause-text : goal.returns-in_err-file-clause-text
 unfolding read_memory_text variable_refused
 returns-in_err-file-clause-text c = let a = c.args in text-unread a.words.now a.number a.bytes.now a.nodes.now a.characters.now _ c.in_err-file.ensures
 
-pub variable_built-built-requires : goal.variable_built-built-requires
-variable_built-built-requires c = let f = c.in_ok-file.ensures in passed _ _ _ _ _ f.1 f.0
-
-pub read_built-requires : goal.read_built-requires
-read_built-requires c = let f = c.in_ok-file.ensures in ((passed _ _ _ _ _ f.1 f.0).inside, c.variable_built-built.ensures)
+pub read_variable-requires : goal.read_variable-requires
+read_variable-requires c = let f = c.in_ok-file.ensures in passed _ _ _ _ _ f.1 f.0
 
 pub returns-clause-answer : goal.returns-clause-answer
 unfolding read_memory_answer variable_refused
 returns-clause-answer c =
     let a = c.args in
     let f = c.in_ok-file.ensures in
-    answer-read a.words.now a.number a.bytes.now a.nodes.now a.characters.now f.1 f.0 c.read_built.ensures
+    answer-read a.words.now a.number a.bytes.now a.nodes.now a.characters.now f.1 f.0 c.read_variable.ensures
 
 pub returns-clause-nodes : goal.returns-clause-nodes
 unfolding read_memory_nodes variable_refused
 returns-clause-nodes c =
     let a = c.args in
     let f = c.in_ok-file.ensures in
-    nodes-read a.words.now a.number a.bytes.now a.nodes.now a.characters.now f.1 f.0 c.read_built.ensures
+    nodes-read a.words.now a.number a.bytes.now a.nodes.now a.characters.now f.1 f.0 c.read_variable.ensures
 
 pub returns-clause-text : goal.returns-clause-text
 unfolding read_memory_text variable_refused
 returns-clause-text c =
     let a = c.args in
     let f = c.in_ok-file.ensures in
-    text-read a.words.now a.number a.bytes.now a.nodes.now a.characters.now f.1 f.0 c.read_built.ensures
+    text-read a.words.now a.number a.bytes.now a.nodes.now a.characters.now f.1 f.0 c.read_variable.ensures

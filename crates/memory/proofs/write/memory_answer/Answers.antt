@@ -14,22 +14,19 @@ pub returns-in_err-file-clause-bytes : goal.returns-in_err-file-clause-bytes
 unfolding write_memory_out variable_refused
 returns-in_err-file-clause-bytes c = let a = c.args in bytes-refused a.words.now a.number a.bytes.now _ c.in_err-file.ensures
 
-pub variable_built-built-requires : goal.variable_built-built-requires
-variable_built-built-requires c = let f = c.in_ok-file.ensures in passed _ _ _ _ _ f.1 f.0
-
-pub write_built-requires : goal.write_built-requires
-write_built-requires c = let f = c.in_ok-file.ensures in ((passed _ _ _ _ _ f.1 f.0).inside, c.variable_built-built.ensures)
+pub write_variable-requires : goal.write_variable-requires
+write_variable-requires c = let f = c.in_ok-file.ensures in passed _ _ _ _ _ f.1 f.0
 
 pub returns-clause-answer : goal.returns-clause-answer
 unfolding write_memory_answer variable_refused
 returns-clause-answer c =
     let a = c.args in
     let f = c.in_ok-file.ensures in
-    answer-passed a.words.now a.number a.bytes.now f.1 f.0 c.write_built.ensures
+    answer-passed a.words.now a.number a.bytes.now f.1 f.0 c.write_variable.ensures
 
 pub returns-clause-bytes : goal.returns-clause-bytes
 unfolding write_memory_out variable_refused
 returns-clause-bytes c =
     let a = c.args in
     let f = c.in_ok-file.ensures in
-    bytes-passed a.words.now a.number a.bytes.now f.1 f.0 c.write_built.ensures
+    bytes-passed a.words.now a.number a.bytes.now f.1 f.0 c.write_variable.ensures

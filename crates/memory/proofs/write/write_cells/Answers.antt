@@ -2,9 +2,6 @@
 use Rattle.memory.proofs.Writing.{cell_writing}
 use Rattle.memory.proofs.write.write_cells.Goals as goal
 
-pub write_held-requires : goal.write_held-requires
-write_held-requires c = search cell_writing
-
 pub returns-then-held_all : goal.returns-then-held_all
 returns-then-held_all c = search cell_writing
 

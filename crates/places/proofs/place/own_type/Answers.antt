@@ -1,5 +1,5 @@
 -- `place::own_type` meets its contract. Assumes nothing.
-use Rattle.places.proofs.place.Laws.{own-kept, own-left, laws}
+use Rattle.places.proofs.place.Laws.{own-kept, own-left}
 use Rattle.places.proofs.place.own_type.Goals as goal
 
 pub returns-then-same_shape : goal.returns-then-same_shape

@@ -1,6 +1,6 @@
 -- `file::declared_types` meets its contract. Assumes nothing.
 use mathlib.Core.Path.{◌≡◌}
-use Prim.Native.Nat.{◌-◌, ◌≤◌}
+use Prim.Native.Nat.{◌≤◌}
 use Rattle.definition.specs.Layout.{count, types}
 use Rattle.records.proofs.Declaring.{Counted}
 use Rattle.records.proofs.file.declared_types.Given as goal

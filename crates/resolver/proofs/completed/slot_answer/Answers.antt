@@ -17,19 +17,19 @@ pub returns-in_err-file-clause-out : goal.returns-in_err-file-clause-out
 unfolding completed_out variable_refused
 returns-in_err-file-clause-out c = let a = c.args in room-refused a.words.now a.number (variable_outcome a.words.now a.number) a.out.now _ c.in_err-file.ensures
 
-pub variable_built-built-requires : goal.variable_built-built-requires
-variable_built-built-requires c = let f = c.in_ok-file.ensures in passed _ _ _ _ _ f.1 f.0
+pub write_completed-requires : goal.write_completed-requires
+write_completed-requires c = let f = c.in_ok-file.ensures in passed _ _ _ _ _ f.1 f.0
 
 pub returns-clause-answer : goal.returns-clause-answer
 unfolding completed_answer variable_refused
 returns-clause-answer c =
     let a = c.args in
     let f = c.in_ok-file.ensures in
-    slot-passed a.words.now a.number (variable_outcome a.words.now a.number) a.out.now f.1 f.0 (ap (λ (l : List ℕ). variable_outcome l a.number) f.0) c.variable_built-built.ensures c.write_completed.ensures
+    slot-passed a.words.now a.number (variable_outcome a.words.now a.number) a.out.now f.1 f.0 (ap (λ (l : List ℕ). variable_outcome l a.number) f.0) c.write_completed.ensures
 
 pub returns-clause-out : goal.returns-clause-out
 unfolding completed_out variable_refused
 returns-clause-out c =
     let a = c.args in
     let f = c.in_ok-file.ensures in
-    room-passed a.words.now a.number (variable_outcome a.words.now a.number) a.out.now f.1 f.0 (ap (λ (l : List ℕ). variable_outcome l a.number) f.0) c.variable_built-built.ensures c.write_completed.ensures
+    room-passed a.words.now a.number (variable_outcome a.words.now a.number) a.out.now f.1 f.0 (ap (λ (l : List ℕ). variable_outcome l a.number) f.0) c.write_completed.ensures

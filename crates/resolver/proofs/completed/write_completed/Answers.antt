@@ -1,9 +1,20 @@
 -- `completed::write_completed` meets its contract. Assumes nothing.
-use Rattle.resolver.proofs.Completing.{completing_laws, completes-tree}
+use borrow.Author.Rules.{rules}
+use Rattle.resolver.proofs.Completing.{completes-large, completes-none, completes-left, completes-tree, completes-full}
 use Rattle.resolver.proofs.completed.write_completed.Goals as goal
 
-pub returns-in_err-nodes-in-Completed : goal.returns-in_err-nodes-in-Completed
-returns-in_err-nodes-in-Completed c = completes-tree c.in-Ends.is c.completion.ensures c.in-Completed.is c.write.ensures (search completing_laws)
+pub returns-in_err-end : goal.returns-in_err-end
+returns-in_err-end c = completes-large c.in_err-end.ensures (search rules)
 
-pub returns-in_ok-nodes-in-Completed : goal.returns-in_ok-nodes-in-Completed
-returns-in_ok-nodes-in-Completed c = completes-tree c.in-Ends.is c.completion.ensures c.in-Completed.is c.write.ensures (search completing_laws)
+pub returns-in_default : goal.returns-in_default
+returns-in_default c = completes-none c.build_tree.ensures c.in_ok-end.was c.in_default.is
+
+pub returns-in_err-nodes-in-Some-completion : goal.returns-in_err-nodes-in-Some-completion
+returns-in_err-nodes-in-Some-completion c =
+    completes-full c.build_tree.ensures c.in_ok-end.was c.in-Some.is c.completion.ensures c.in-Some-completion.is c.write.ensures c.in_err-nodes-in-Some-completion.was (search rules)
+
+pub returns-in_ok-nodes-in-Some-completion : goal.returns-in_ok-nodes-in-Some-completion
+returns-in_ok-nodes-in-Some-completion c = completes-tree c.build_tree.ensures c.in_ok-end.was c.in-Some.is c.completion.ensures c.in-Some-completion.is c.write.ensures c.in_ok-nodes-in-Some-completion.was
+
+pub returns-in-None : goal.returns-in-None
+returns-in-None c = completes-left c.build_tree.ensures c.in_ok-end.was c.in-Some.is c.completion.ensures c.in-None.is

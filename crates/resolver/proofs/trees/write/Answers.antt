@@ -3,4 +3,4 @@ use Rattle.resolver.proofs.Answering.{writes-tree}
 use Rattle.resolver.proofs.trees.write.Goals as goal
 
 pub returns-in-Some : goal.returns-in-Some
-returns-in-Some c = writes-tree c.in-Ends.is c.copy.ensures c.in-Some.is
+returns-in-Some c = writes-tree c.copy.ensures c.in-Some.is

@@ -5,5 +5,5 @@ use Rattle.records.proofs.Ranging.{every-in-range}
 use Rattle.rules.proofs.Running.{run_is}
 use Rattle.rules.proofs.runs.fields_below.Goals as goal
 
-pub returns : goal.returns
-returns c = run_is _ _ _ _ _ c.run_in.ensures.is c.if-not-run_in.false (every-in-range _ _ _ c.args.many _ c.all.ensures.ran refl (λ x b q k. search rules))
+pub returns-then-run_in : goal.returns-then-run_in
+returns-then-run_in c = run_is _ _ _ _ _ c.run_in.ensures.is c.if-run_in.true (every-in-range _ _ _ c.args.many _ c.all.ensures.ran refl (λ x b q k. search rules))

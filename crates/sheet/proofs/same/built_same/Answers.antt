@@ -2,5 +2,5 @@
 use Rattle.sheet.proofs.Matching.{matching}
 use Rattle.sheet.proofs.same.built_same.Goals as goal
 
-pub overflow_cast-nodes : goal.overflow_cast-nodes
-overflow_cast-nodes c = search matching
+pub overflow_cast-e : goal.overflow_cast-e
+overflow_cast-e c = search matching

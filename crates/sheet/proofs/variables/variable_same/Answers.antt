@@ -8,11 +8,11 @@ variable-built-requires c = search telling
 pub built_same-requires : goal.built_same-requires
 built_same-requires c = search telling
 
-pub returns-then-not-built_same : goal.returns-then-not-built_same
-returns-then-not-built_same c = search telling
-
 pub completion_same-requires : goal.completion_same-requires
 completion_same-requires c = search telling
 
-pub returns : goal.returns
-returns c = search telling
+pub returns-then-built_same : goal.returns-then-built_same
+returns-then-built_same c = search telling
+
+pub returns-else-built_same : goal.returns-else-built_same
+returns-else-built_same c = search telling

@@ -5,8 +5,8 @@ use Rattle.text.proofs.line.put_line.Goals as goal
 pub put_word-end-requires : goal.put_word-end-requires
 put_word-end-requires c = search lining
 
-pub loop-i-preserved : goal.loop-i-preserved
-loop-i-preserved c = search lining
+pub loop-word-preserved : goal.loop-word-preserved
+loop-word-preserved c = search lining
 
 pub put_word-end-requires-2 : goal.put_word-end-requires-2
 put_word-end-requires-2 c = search lining

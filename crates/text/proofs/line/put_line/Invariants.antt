@@ -2,5 +2,5 @@
 use Rattle.text.proofs.Lining.{Lining}
 use Rattle.text.proofs.line.put_line.Given as goal
 
-abbrev pub invariant-loop-i : goal.invariant-loop-i
-invariant-loop-i l = Lining l.many l.words l.initial.text l.fn.at l.i l.last l.text l.end
+abbrev pub invariant-loop-word : goal.invariant-loop-word
+invariant-loop-word l = Lining l.many l.words l.initial.text l.fn.at l.word-index l.last l.text l.end

@@ -1,5 +1,4 @@
 -- `sheet::sheet_answer` meets its contract. Assumes nothing.
-use borrow.Author.Rules.{rules}
 use Rattle.writer.proofs.Refusing.{passed-by}
 use Rattle.writer.proofs.Whole.{out-refused, answer-passed, out-passed}
 use Rattle.writer.proofs.sheet.sheet_answer.Goals as goal

@@ -2,7 +2,6 @@
 use Prim.Native.Nat.{ℕ, ◌+◌, ◌*◌, ◌^◌, ◌≤◌}
 use mathlib.Core.Path.{◌≡◌}
 use native.Mathlib.Omega.{arith}
-use borrow.Author.Rules.{rules}
 use Rattle.definition.specs.Layout.{record_words}
 use Rattle.records.proofs.Starting.{words_of, start-most, word-is}
 use Rattle.records.proofs.source.Source.run_word.Goals as goal
@@ -10,9 +9,6 @@ use Rattle.records.proofs.source.Source.run_word.Goals as goal
 -- how far into its section the record stands
 near : {size : ℕ} (number section : ℕ) → size ≡ record_words section → number ≤ 2 ^ 33 → number * size ≤ 2 ^ 33 * 11
 near number section e h = rw e (words_of (2 ^ 33) number section h)
-
-pub overflow_add-at : goal.overflow_add-at
-overflow_add-at c = omega (arith, start-most c.self.invariant c.args.section (omega arith) (omega arith))
 
 pub overflow_mul-number : goal.overflow_mul-number
 overflow_mul-number c = omega (arith, near (c.args.first + c.args.j) c.args.section c.record_words.ensures (omega arith))

@@ -1,0 +1,8 @@
+-- `above::above_variables` meets its contract. Assumes nothing.
+use mathlib.Core.Path.{refl}
+use borrow.Author.Rules.{rules}
+use Rattle.ranks.proofs.Raising.{variables_over}
+use Rattle.ranks.proofs.above.above_variables.Goals as goal
+
+pub returns : goal.returns
+returns c = let a = c.args in variables_over a.file.now _ a.first a.many a.high _ _ c.fold.ensures.ran refl (λ s x b q k. search rules)

@@ -1,9 +1,0 @@
--- `rules::expression_links` meets its contract. Assumes nothing.
-use Rattle.definition.specs.Accept.{point_rules}
-use Rattle.rules.specs.Rules.{point_rule}
-use borrow.Author.Rules.{rules}
-use Rattle.rules.proofs.rules.expression_links.Goals as goal
-
-pub returns : goal.returns
-unfolding point_rule point_rules
-returns c = rw (c.expression_points.ensures, c.word-a.ensures, c.word-kind.ensures)
