@@ -1,3 +1,4 @@
 pub mod Accepting
+pub mod Admitting
 pub mod Nests
 pub mod Wanting

@@ -1,7 +1,16 @@
 -- Depths from a table of those of lower records. Assumes nothing.
 use mathlib.Core.Path.{◌≡◌, refl, ap, ◌∙◌}
 use mathlib.Core.Bool.{Bool, true, false}
-use mathlib.Core.List.{List}
+use borrow.Enum.Refused.{opened}
+use types.Run.{OneOf, miss}
+use denote.Enum.Declared.{tag_of}
+use Rattle.definition.specs.contracts.records.Entry as an_entry
+use Rattle.definition.specs.contracts.records.Shape as a_shape
+use Rattle.definition.specs.declared.records.Entry.{Entry}
+use Rattle.definition.specs.declared.records.Entry.TheVariants as entry
+use Rattle.definition.specs.declared.records.Shape.{Shape}
+use Rattle.definition.specs.declared.records.Shape.TheVariants as shape
+use mathlib.Core.List.{List, [], ◌∷◌}
 use Prim.Native.Nat.{ℕ, zero, suc, ◌+◌, ◌-◌, ◌≤◌, ◌<◌, max}
 use native.Mathlib.Omega.{arith}
 use native.Mathlib.Numerals.{add-one}
@@ -19,7 +28,8 @@ use Rattle.std.specs.declared.iter.Map.{Map}
 use Rattle.std.proofs.iter.Yields.{nat_range_steps}
 use Rattle.std.proofs.lemmas.Iterator.{YieldsList-from_map, YieldsList-from_range}
 use Rattle.std.proofs.lemmas.Iterator.Consumers.{reduce_from_yields_List}
-use Rattle.std.specs.Prelude.{Option, unwrap_or}
+use Rattle.std.specs.Prelude.{Option, Some, None, unwrap_or}
+use Rattle.std.specs.Option.{SomeIff}
 use Rattle.std.proofs.lemmas.List.Folds.{max_of_map}
 use mir.Syntax.{w32}
 use mir.Val.{Fits}
@@ -27,14 +37,13 @@ use borrow.Author.Rules.{rules}
 use borrow.Author.Tests.{ltb-true, ltb-false}
 use Rattle.definition.specs.Base.{on_link}
 use Rattle.definition.specs.Layout.{shapes, entries, count, word}
-use Rattle.definition.specs.Records.{shape_of, shape_at, entry_of, entry_at}
+use Rattle.definition.specs.Records.{shape_at, entry_at}
 use Rattle.definition.specs.Depth.{deepest, entry_depth_from, shape_depth_from, entry_depth, shape_depth, levels}
 use Rattle.laws.specs.Accepted.{Accepted}
 use Rattle.laws.specs.Depths.{deepest-more, entry-depth-from, shape-depth-from, entry-depth-most, shape-depth-most, few-entries, few-shapes, levels-most}
 use Rattle.records.specs.Tables.{table_of, table-length, table_at}
 use Rattle.acceptance.specs.Nesting.{depth_in, field_depth, Shallow, FromLower, GreatestOf}
-use Rattle.records.proofs.Listed.{in-run, past}
-use Rattle.records.proofs.Links.{no-link, a-link}
+use Rattle.records.proofs.Links.{none-linked, one-linked}
 
 -- ---- the greatest so far
 pub record Greatest (d : ℕ → ℕ) (n most : ℕ) : Type 0 where
@@ -69,70 +78,82 @@ pub one_fits : (depths : List ℕ) → Shallow depths → (n : ℕ) → {r : ℕ
 one_fits depths s n e = record { fits = omega (arith, s.most n, e) }
 
 -- ---- a linked entry
-pub no_inner : (below : ℕ → ℕ) (l : ℕ) → l ≡ 0 → 1 ≡ suc (on_link l 0 below)
-no_inner below l e = ap suc (no-link 0 below l e)
+module _ (below : ℕ → ℕ) (l : ℕ) {o : Option ℕ} (taken : SomeIff o (1 ≤ l) (l - 1)) where
+  pub no_inner : o ≡ None → 1 ≡ suc (on_link l 0 below)
+  no_inner e = ap suc (none-linked 0 below l taken e)
 
-pub an-inner : (below : ℕ → ℕ) (l : ℕ) → (l ≡ 0 → ⊥) → {r : ℕ} → r ≡ suc (below (l - 1)) → r ≡ suc (on_link l 0 below)
-an-inner below l p e = e ∙ ap suc (a-link 0 below l p refl)
+  pub an-inner : {n : ℕ} → o ≡ Some n → {r : ℕ} → r ≡ suc (below n) → r ≡ suc (on_link l 0 below)
+  an-inner e p = p ∙ ap suc (one-linked 0 below l taken e refl)
 
 -- ---- one entry
-module _ (f : List ℕ) (e : ℕ) (depths : List ℕ) {kind a b : ℕ} (k : kind ≡ word f entries e 0) (h : a ≡ word f entries e 2) (l : b ≡ word f entries e 3) {r : ℕ} where
-  pub entry-array : kind ≡ 2 → r ≡ suc (deepest (depth_in depths) a b) → r ≡ entry_depth_from (depth_in depths) (entry_at f e)
-  unfolding entry_at entry_of entry_depth_from
-  entry-array q p = rw (← k, ← h, ← l, q) p
+-- the kinds that lead to no entry
+abbrev flat_entries : List ℕ
+flat_entries = 0 ∷ 1 ∷ 4 ∷ 5 ∷ 7 ∷ []
 
-  pub entry-structure : kind ≡ 3 → r ≡ suc (deepest (depth_in depths) a b) → r ≡ entry_depth_from (depth_in depths) (entry_at f e)
-  unfolding entry_at entry_of entry_depth_from
-  entry-structure q p = rw (← k, ← h, ← l, q) p
+flat-entry : (below : ℕ → ℕ) (x : Entry) → OneOf flat_entries (tag_of an_entry.the_type x) → 1 ≡ entry_depth_from below x
+unfolding entry_depth_from
+flat-entry below (entry.Constant a) h = refl
+flat-entry below (entry.Enumerated a b) h = refl
+flat-entry below (entry.Array a b) h = absurd (miss flat_entries 2 tt h)
+flat-entry below (entry.Structure a b) h = absurd (miss flat_entries 3 tt h)
+flat-entry below (entry.Expression a) h = refl
+flat-entry below entry.LateBound h = refl
+flat-entry below (entry.Repeat a b) h = absurd (miss flat_entries 6 tt h)
+flat-entry below entry.Unknown h = refl
 
-  pub entry-repeat : kind ≡ 6 → r ≡ suc (on_link b 0 (depth_in depths)) → r ≡ entry_depth_from (depth_in depths) (entry_at f e)
-  unfolding entry_at entry_of entry_depth_from
-  entry-repeat q p = rw (← k, ← h, ← l, q) p
+module _ {x y : Entry} (k : x ≡ y) (below : ℕ → ℕ) where
+  pub entry-array : {a b r : ℕ} → x ≡ entry.Array a b → r ≡ suc (deepest below a b) → r ≡ entry_depth_from below y
+  unfolding entry_depth_from
+  entry-array q p = rw (← k, q) p
 
-flat-entry : (below : ℕ → ℕ) (kind a b : ℕ) → (kind ≡ 2 → ⊥) → (kind ≡ 3 → ⊥) → (kind ≡ 6 → ⊥) → 1 ≡ entry_depth_from below (entry_of kind a b)
-unfolding entry_of entry_depth_from
-flat-entry below kind a b p q r = go (ltb kind 2) (ltb kind 6) refl refl
-  where
-    go : (s t : Bool) → ltb kind 2 ≡ s → ltb kind 6 ≡ t → 1 ≡ entry_depth_from below (entry_of kind a b)
-    go true t x y = in-run (λ k. entry_depth_from below (entry_of k a b)) 0 2 kind (omega arith) (ltb-true kind 2 x) (refl, (refl, tt)) refl
-    go false true x y =
-        let m = ltb-false kind 2 x in
-        in-run (λ k. entry_depth_from below (entry_of k a b)) 4 2 kind (omega (arith, p, q)) (ltb-true kind 6 y) (refl, (refl, tt)) refl
-    go false false x y =
-        let m = ltb-false kind 6 y in
-        past (λ k. entry_depth_from below (entry_of k a b)) 7 kind (omega (arith, r)) (λ j. refl)
+  pub entry-structure : {a b r : ℕ} → x ≡ entry.Structure a b → r ≡ suc (deepest below a b) → r ≡ entry_depth_from below y
+  unfolding entry_depth_from
+  entry-structure q p = rw (← k, q) p
 
-pub entry_other : (f : List ℕ) (e : ℕ) (below : ℕ → ℕ) {kind : ℕ} → kind ≡ word f entries e 0 → (kind ≡ 2 → ⊥) → (kind ≡ 3 → ⊥) → (kind ≡ 6 → ⊥)
-    → 1 ≡ entry_depth_from below (entry_at f e)
-unfolding entry_at
-entry_other f e below k p q r = rw (← k) (flat-entry below _ (word f entries e 2) (word f entries e 3) p q r)
+  pub entry-repeat : {a b r : ℕ} → x ≡ entry.Repeat a b → r ≡ suc (on_link b 0 below) → r ≡ entry_depth_from below y
+  unfolding entry_depth_from
+  entry-repeat q p = rw (← k, q) p
+
+  pub entry_other : OneOf flat_entries (tag_of an_entry.the_type x) → 1 ≡ entry_depth_from below y
+  entry_other q = rw (← k) (flat-entry below x q)
 
 -- ---- one shape
-module _ (f : List ℕ) (n : ℕ) (depths : List ℕ) {kind a : ℕ} (k : kind ≡ word f shapes n 0) (h : a ≡ word f shapes n 1) {r : ℕ} where
-  pub shape-structure : kind ≡ 11 → {b : ℕ} → b ≡ word f shapes n 2 → r ≡ suc (deepest (field_depth f depths) a b) → r ≡ shape_depth_from f (depth_in depths) (shape_at f n)
-  unfolding shape_at shape_of shape_depth_from
-  shape-structure q l p = rw (← k, ← h, ← l, q) p
+-- the kinds that lead to no shape
+abbrev flat_shapes : List ℕ
+flat_shapes = 0 ∷ 1 ∷ 2 ∷ 3 ∷ 4 ∷ 5 ∷ 6 ∷ 7 ∷ 8 ∷ 9 ∷ 10 ∷ 13 ∷ 14 ∷ 15 ∷ 16 ∷ 17 ∷ []
 
-  pub shape-array : kind ≡ 12 → r ≡ suc (depth_in depths a) → r ≡ shape_depth_from f (depth_in depths) (shape_at f n)
-  unfolding shape_at shape_of shape_depth_from
-  shape-array q p = rw (← k, ← h, q) p
+flat-shape : (f : List ℕ) (below : ℕ → ℕ) (x : Shape) → OneOf flat_shapes (tag_of a_shape.the_type x) → 1 ≡ shape_depth_from f below x
+unfolding shape_depth_from
+flat-shape f below shape.Bool h = refl
+flat-shape f below (shape.Int a) h = refl
+flat-shape f below (shape.UInt a) h = refl
+flat-shape f below (shape.Real a) h = refl
+flat-shape f below (shape.Bytes a) h = refl
+flat-shape f below (shape.Time a) h = refl
+flat-shape f below (shape.Date a) h = refl
+flat-shape f below (shape.TimeOfDay a) h = refl
+flat-shape f below (shape.DateAndTime a) h = refl
+flat-shape f below (shape.String a b) h = refl
+flat-shape f below (shape.Enumeration a b c d) h = refl
+flat-shape f below (shape.Structure a b) h = absurd (miss flat_shapes 11 tt h)
+flat-shape f below (shape.Array a b c) h = absurd (miss flat_shapes 12 tt h)
+flat-shape f below (shape.Subrange a b c) h = refl
+flat-shape f below (shape.FunctionBlock a) h = refl
+flat-shape f below (shape.Interface a) h = refl
+flat-shape f below (shape.Reference a) h = refl
+flat-shape f below shape.Unknown h = refl
 
-flat-shape : (f : List ℕ) (below : ℕ → ℕ) (kind a b c d : ℕ) → (kind ≡ 11 → ⊥) → (kind ≡ 12 → ⊥) → 1 ≡ shape_depth_from f below (shape_of kind a b c d)
-unfolding shape_of shape_depth_from
-flat-shape f below kind a b c d p q = go (ltb kind 11) (ltb kind 17) refl refl
-  where
-    go : (s t : Bool) → ltb kind 11 ≡ s → ltb kind 17 ≡ t → 1 ≡ shape_depth_from f below (shape_of kind a b c d)
-    go true t x y =
-        in-run (λ k. shape_depth_from f below (shape_of k a b c d)) 0 11 kind (omega arith) (ltb-true kind 11 x)
-        (refl, (refl, (refl, (refl, (refl, (refl, (refl, (refl, (refl, (refl, (refl, tt))))))))))) refl
-    go false true x y =
-        let m = ltb-false kind 11 x in
-        in-run (λ k. shape_depth_from f below (shape_of k a b c d)) 13 4 kind (omega (arith, p, q)) (ltb-true kind 17 y) (refl, (refl, (refl, (refl, tt)))) refl
-    go false false x y = past (λ k. shape_depth_from f below (shape_of k a b c d)) 17 kind (ltb-false kind 17 y) (λ j. refl)
+module _ (f depths : List ℕ) {x y : Shape} (k : x ≡ y) where
+  pub shape-structure : {a b r : ℕ} → x ≡ shape.Structure a b → r ≡ suc (deepest (field_depth f depths) a b) → r ≡ shape_depth_from f (depth_in depths) y
+  unfolding shape_depth_from
+  shape-structure q p = rw (← k, q) p
 
-pub shape-other : (f : List ℕ) (n : ℕ) (below : ℕ → ℕ) {kind : ℕ} → kind ≡ word f shapes n 0 → (kind ≡ 11 → ⊥) → (kind ≡ 12 → ⊥) → 1 ≡ shape_depth_from f below (shape_at f n)
-unfolding shape_at
-shape-other f n below k p q = rw (← k) (flat-shape f below _ (word f shapes n 1) (word f shapes n 2) (word f shapes n 3) (word f shapes n 4) p q)
+  pub shape-array : {a b c r : ℕ} → x ≡ shape.Array a b c → r ≡ suc (depth_in depths a) → r ≡ shape_depth_from f (depth_in depths) y
+  unfolding shape_depth_from
+  shape-array q p = rw (← k, q) p
+
+  pub shape-other : OneOf flat_shapes (tag_of a_shape.the_type x) → 1 ≡ shape_depth_from f (depth_in depths) y
+  shape-other q = rw (← k) (flat-shape f (depth_in depths) x q)
 
 -- ---- a table of the lower depths
 module _ (d : ℕ → ℕ) (n : ℕ) (s : List ℕ) (e : s ≡ table_of d n) where
@@ -201,6 +222,6 @@ pub still-zero : {lent words : List ℕ} → words ≡ lent → lent ≡ replica
 still-zero e h = rw e h
 
 pub ruleset nests =
-    (rules, one_fits, no_inner, an-inner, entry-array, entry-structure, entry-repeat, entry_other, shape-structure, shape-array, shape-other)
+    (rules, opened, one_fits, no_inner, an-inner, entry-array, entry-structure, entry-repeat, entry_other, shape-structure, shape-array, shape-other)
 
 pub ruleset leveling = (rules, entries-found, deepest-entry, shapes-found, deepest-shape, levels-are, sum_fits, levels_fit, still-room, still-zero)

@@ -44,8 +44,11 @@ at-least-one refusal.Lines = omega arith
 at-least-one refusal.NotHeld = omega arith
 at-least-one refusal.Wide = omega arith
 
+pub not-zero : (r : Refusal) → eqb (number_of r) 0 ≡ false
+not-zero r = ne_eqb (number_of r) 0 (λ e. absurd (omega (arith, at-least-one r)))
+
 none-else : (f : List ℕ) (r : Refusal) → number_of r ≡ verdict f → eqb (verdict f) 0 ≡ false
-none-else f r e = ne_eqb (verdict f) 0 (λ z. absurd (omega (arith, at-least-one r)))
+none-else f r e = rw (← e) (not-zero r)
 
 module _ (f : List ℕ) where
   -- what a function refuses after the file's own refusals

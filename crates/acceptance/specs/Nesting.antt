@@ -1,5 +1,5 @@
 -- Depths from a table of those of lower records: what the code has functions for.
-use Rattle.std.specs.Prelude.{◌≡◌, List, ℕ, ◌<◌, ◌≤◌, get_or}
+use Rattle.std.specs.Prelude.{◌≡◌, List, ℕ, suc, ◌+◌, ◌<◌, ◌≤◌, get_or}
 use denote.Ref.{Bor}
 use Rattle.definition.specs.Layout.{shape_fields, word}
 use Rattle.definition.specs.Depth.{deepest}
@@ -25,3 +25,7 @@ pub record FromLower (takes : Bor (List ℕ) → ℕ → Type 0) (gives : Bor (L
 -- the greatest of the depths that it finds
 pub record GreatestOf (takes : Bor (List ℕ) → ℕ → Type 0) (gives : Bor (List ℕ) → ℕ → ℕ → Type 0) (many most : ℕ) : Type 0 where
   pub is : (d : ℕ → ℕ) → FromLower takes gives d many → most ≡ deepest d 0 many
+
+-- one more than the deepest of a run, where the answers for its records say where in the table the depth of each stands
+pub record OverRun (answers : ℕ → ℕ → Type 0) (depths : List ℕ) (many r : ℕ) : Type 0 where
+  pub is : (d : ℕ → ℕ) (first : ℕ) → ((j p : ℕ) → answers j p → depth_in depths p ≡ d (first + j)) → r ≡ suc (deepest d first many)

@@ -15,7 +15,7 @@ use shapes::arrays::arrays_small;
 use shapes::differ::shapes_differ;
 
 // A test that does not hold is a refusal.
-fn held(test: bool, refusal: Refusal) -> Result<(), Refusal>
+pub fn held(test: bool, refusal: Refusal) -> Result<(), Refusal>
     ensures { result ≡ pick test (Ok tt) (Err refusal) }
 {
     if test { Ok(()) } else { Err(refusal) }

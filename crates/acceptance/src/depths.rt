@@ -6,20 +6,30 @@ ghost use Rattle.definition.specs.Base.{on_link};
 ghost use Rattle.definition.specs.Layout as Layout;
 ghost use Rattle.definition.specs.Records.{shape_at, entry_at};
 ghost use Rattle.definition.specs.Depth as Depth;
-ghost use Rattle.acceptance.specs.Nesting.{depth_in, field_depth, Shallow, FromLower, GreatestOf};
+ghost use Rattle.acceptance.specs.Nesting.{depth_in, field_depth, Shallow, FromLower, GreatestOf, OverRun};
 
 use definition::layout::{ENTRIES, SHAPE_FIELDS, SHAPES};
+use definition::records::{Entry, Shape};
 use records::file::File;
 use records::source::Source;
 use records::words::word_at;
+
+// One more than the deepest of a run: `place` says where the depth of each stands.
+fn over_run<F: Fn(u32) -> usize>(depths: &[u32], many: u32, place: F) -> u32
+    requires shallow { Shallow depths.now }
+    requires pre { F.IsAlwaysCallable place }
+    ensures { OverRun (F.post place) depths.now many result }
+{
+    let below = (0..many).map(|j| word_at(depths, place(j)));
+    below.max().unwrap_or(0) + 1
+}
 
 // One more than the deepest record of a run.
 fn over_records(depths: &[u32], first: u32, many: u32) -> u32
     requires { Shallow depths.now }
     ensures { result ≡ suc (Depth.deepest (depth_in depths.now) first many) }
 {
-    let below = (0..many).map(|j| word_at(depths, first as usize + j as usize));
-    below.max().unwrap_or(0) + 1
+    over_run(depths, many, |j| first as usize + j as usize)
 }
 
 // One more than the deepest shape that a run of fields leads to.
@@ -27,9 +37,11 @@ fn over_fields(file: &Source<'_>, depths: &[u32], first: u32, many: u32) -> u32
     requires { Shallow depths.now }
     ensures { result ≡ suc (Depth.deepest (field_depth file.now depths.now) first many) }
 {
-    let shape = |j| file.run_word(SHAPE_FIELDS, first, j, 1);
-    let below = (0..many).map(|j| word_at(depths, shape(j) as usize));
-    below.max().unwrap_or(0) + 1
+    over_run(
+        depths,
+        many,
+        |j| file.run_word(SHAPE_FIELDS, first, j, 1) as usize,
+    )
 }
 
 fn over_one(depths: &[u32], n: u32) -> u32
@@ -43,23 +55,20 @@ fn over_link(depths: &[u32], link: u32) -> u32
     requires { Shallow depths.now }
     ensures { result ≡ suc (on_link link 0 (depth_in depths.now)) }
 {
-    if link == 0 {
+    let Some(n) = link.checked_sub(1) else {
         return 1;
-    }
-    over_one(depths, link - 1)
+    };
+    over_one(depths, n)
 }
 
 fn entry_depth(file: &Source<'_>, depths: &[u32], e: u32) -> u32
     requires { Shallow depths.now }
     ensures { result ≡ Depth.entry_depth_from (depth_in depths.now) (entry_at file.now e) }
 {
-    let kind = file.word(ENTRIES, e, 0);
-    let a = file.word(ENTRIES, e, 2);
-    let b = file.word(ENTRIES, e, 3);
-    match kind {
-        2 => over_records(depths, a, b),
-        3 => over_records(depths, a, b),
-        6 => over_link(depths, b),
+    match file.entry(e) {
+        Entry::Array { first, count } => over_records(depths, first, count),
+        Entry::Structure { first, count } => over_records(depths, first, count),
+        Entry::Repeat { inner, .. } => over_link(depths, inner),
         _ => 1,
     }
 }
@@ -68,12 +77,9 @@ fn shape_depth(file: &Source<'_>, depths: &[u32], n: u32) -> u32
     requires { Shallow depths.now }
     ensures { result ≡ Depth.shape_depth_from file.now (depth_in depths.now) (shape_at file.now n) }
 {
-    let kind = file.word(SHAPES, n, 0);
-    let a = file.word(SHAPES, n, 1);
-    let b = file.word(SHAPES, n, 2);
-    match kind {
-        11 => over_fields(file, depths, a, b),
-        12 => over_one(depths, a),
+    match file.shape(n) {
+        Shape::Structure { first, count } => over_fields(file, depths, first, count),
+        Shape::Array { element, .. } => over_one(depths, element),
         _ => 1,
     }
 }

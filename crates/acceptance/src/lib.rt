@@ -2,5 +2,6 @@
 #![tactic(auto)]
 
 pub mod accept;
+pub mod admit;
 pub mod depths;
 pub mod work;

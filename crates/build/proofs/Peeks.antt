@@ -1,7 +1,7 @@
 -- What a memo gives a computation that goes on only after a value, and what is answered for it. Assumes nothing.
 use mathlib.Core.Path.{◌≡◌, refl, ap, sym, ◌∙◌}
 use mathlib.Core.List.{List}
-use Prim.Native.Nat.{ℕ, ◌+◌, ◌≤◌}
+use Prim.Native.Nat.{ℕ, zero, suc, ◌+◌, ◌-◌, ◌≤◌}
 use native.Mathlib.Omega.{arith}
 use lib.ListN.{length, take}
 use lib.Seq.{take-take}
@@ -12,7 +12,9 @@ use Rattle.laws.specs.Peeking.{on_got, peek-bind}
 use Rattle.tree.specs.Words.{Stand}
 use Rattle.build.specs.declared.built.Unbuilt.{Unbuilt}
 use Rattle.build.specs.declared.built.Unbuilt.TheVariants as unbuilt
-use Rattle.std.specs.Prelude.{Err, Ok}
+use Rattle.std.specs.Prelude.{Err, None, Ok, Option, Some}
+use Rattle.std.specs.Prelude as std
+use Rattle.std.specs.Option.{SomeIff, ok_or}
 use Rattle.build.specs.Built.{Built, answer_of, Gives, Memory, Builds}
 
 -- ---- only a value goes on
@@ -111,3 +113,23 @@ module _ {A : Type 0} {f known store : List ℕ} {words : A → List ℕ} {m : A
       go (got none) s = let z : ◌≡◌ {A = ℕ} 0 1 = cc in absurd (omega arith)
       go (got large) s = let z : ◌≡◌ {A = ℕ} 0 1 = cc in absurd (omega arith)
       go (wants e) s = let z : e ≡ d = cc in ap wants z
+
+-- ---- what `ok_or(Unbuilt::None)?` leaves
+pub some-of : {A : Type 0} {x : Option A} {a : std.Result A Unbuilt} → a ≡ ok_or x unbuilt.None → {v : A} → a ≡ Ok v → x ≡ Some v
+some-of {x = Some y} k {v} i = let e : y ≡ v = cc in ap Some e
+some-of {x = None} k i = let z : ◌≡◌ {A = ℕ} 0 1 = cc in absurd (omega arith)
+
+pub none-of : {A B : Type 0} {x : Option A} {a : std.Result A Unbuilt} → a ≡ ok_or x unbuilt.None → {u : Unbuilt} → a ≡ Err u → {r : std.Result B Unbuilt} → r ≡ Err u → (x ≡ None) × (r ≡ Err unbuilt.None)
+none-of {x = Some y} k i q = let z : ◌≡◌ {A = ℕ} 0 1 = cc in absurd (omega arith)
+none-of {x = None} k {u} i q = let e : u ≡ unbuilt.None = cc in (refl, q ∙ ap Err e)
+
+-- ---- a link that leads somewhere, or not
+pub link-some : {link : ℕ} {o : Option ℕ} → SomeIff o (1 ≤ link) (link - 1) → {n : ℕ} → o ≡ Some n → link ≡ suc n
+link-some q e = let s = rw e at q in omega (arith, s.0, s.1)
+
+pub link-none : {link : ℕ} {o : Option ℕ} → SomeIff o (1 ≤ link) (link - 1) → o ≡ None → link ≡ 0
+link-none {link} q e = go link (rw e at q)
+  where
+    go : (l : ℕ) → (1 ≤ l → ⊥) → l ≡ 0
+    go zero h = refl
+    go (suc l) h = absurd (h (omega arith))

@@ -51,7 +51,7 @@ module _ {f : List ℕ} (a : Accepted f) {known store : List ℕ} {M : Memo} (m 
   elements-small ts e = omega (arith, (elements-gathered ts e).room)
 
 -- where the default of a place ends
-module _ {f known store : List ℕ} (y : Ready f known store) {place : Place} (i : PlaceIn f place)
+module _ {f classes known store : List ℕ} (y : Ready f classes known store) {place : Place} (i : PlaceIn f place)
     {p : ℕ} {old : List ℕ} {r : Built} {new : List ℕ} (x : Builds f known store flatten (default_of f place) p old r new) {e : ℕ} (q : r ≡ Ok e) where
   there : EndsAt flatten (peek y.memo (default_of f place)) p e new
   there = gives-ends (peek y.memo (default_of f place)) (x.gives y.memo y.memory) q

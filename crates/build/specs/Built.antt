@@ -39,7 +39,7 @@ pub record Puts {A : Type 0} (words : A → List ℕ) (p : Peek (Result A)) (at 
   pub gives : Gives words p at r new
   pub kept : take at new ≡ take at old
 
--- the tables that never change while a tree is built: shape classes in the first 1,024 words, the index of remembered types in the others
+-- the tables that never change while a tree is built, as one slice: shape classes in the first 1,024 words, the index of remembered types in the others
 abbrev pub index_at : ℕ
 index_at = 1024
 
@@ -47,18 +47,17 @@ abbrev pub index_in : List ℕ → List ℕ
 index_in known = take (length known - index_at) (drop index_at known)
 
 -- a memo of all types of the file that the index and the store stand for
-pub record Memory (f known store : List ℕ) (M : Memo) : Type 0 where
-  pub remembers : Remembers (index_in known) store (length store) M
+pub record Memory (f index store : List ℕ) (M : Memo) : Type 0 where
+  pub remembers : Remembers index store (length store) M
   pub all : count f types ≤ length M
 
-pub record Builds {A : Type 0} (f known store : List ℕ) (words : A → List ℕ) (m : Ask (Result A)) (at : ℕ) (old : List ℕ) (r : Built) (new : List ℕ) : Type 0 where
-  pub gives : (M : Memo) → Memory f known store M → Gives words (peek M m) at r new
+pub record Builds {A : Type 0} (f index store : List ℕ) (words : A → List ℕ) (m : Ask (Result A)) (at : ℕ) (old : List ℕ) (r : Built) (new : List ℕ) : Type 0 where
+  pub gives : (M : Memo) → Memory f index store M → Gives words (peek M m) at r new
   pub kept : take at new ≡ take at old
 
--- what the arguments that every building function hands on have to be
-pub record Ready (f known store : List ℕ) : Type 0 where
+-- what every building function reads fits together
+pub record Ready (f classes index store : List ℕ) : Type 0 where
   pub accepted : Accepted f
-  pub classed : Classes f known
-  pub tables : index_at ≤ length known
+  pub classed : Classes f classes
   pub memo : Memo
-  pub memory : Memory f known store memo
+  pub memory : Memory f index store memo

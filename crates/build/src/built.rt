@@ -1,9 +1,10 @@
 // What a building function answers: where the value that it formed ends in the room, or why there is none.
 
 ghost use Rattle.std.specs.Prelude.{◌≡◌};
-ghost use Rattle.build.specs.Unfit.{unbuilt_of};
+ghost use Rattle.build.specs.Unfit.{unbuilt_of, unlisted_of};
 
 use tree_changes::grow::Unfit;
+use tree_changes::limit::Misfit;
 
 // There is no value; it is too large; or the first type that is not remembered.
 #[derive(Clone, Copy)]
@@ -20,6 +21,18 @@ impl From<Unfit> for Unbuilt {
         match u {
             Unfit::TooLarge => Unbuilt::TooLarge,
             Unfit::Outside => Unbuilt::None,
+        }
+    }
+}
+
+// More values than places are none.
+impl From<Misfit> for Unbuilt {
+    ghost from_gives = { λ m e. e ≡ unlisted_of m };
+
+    fn from(m: Misfit) -> Unbuilt {
+        match m {
+            Misfit::TooMany => Unbuilt::None,
+            Misfit::TooLarge => Unbuilt::TooLarge,
         }
     }
 }

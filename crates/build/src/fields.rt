@@ -16,10 +16,7 @@ pub fn is_listed(file: &Source<'_>, section: usize, k: u32) -> bool
     requires { (section < 14) }
     ensures { result ≡ is_listed file.now section k }
 {
-    if section != BLOCK_FIELDS {
-        return true;
-    }
-    file.word(section, k, 2) != 2
+    section != BLOCK_FIELDS || file.word(section, k, 2) != 2
 }
 
 // A field's tree takes its name, where all that is gathered under the head at `at` is small enough.

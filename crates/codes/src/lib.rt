@@ -1,10 +1,10 @@
 // Answers as numbers, for C: the refusal's number alone where a function only passes or refuses; else it stands in the high word, and the value in the low one.
-#![tactic(auto, unfolding(definition::specs::Answers::value_code, definition::specs::Answers::packed))]
+#![tactic(auto)]
 
 ghost use Rattle.std.specs.Prelude.{◌≡◌, ◌*◌, ◌^◌};
 ghost use Rattle.definition.specs.Answers.{number_of, acceptance_says, words_say, tree_says, completed_says, pass_code, value_code};
 ghost use Rattle.memory_definition.specs.Answers.{memory_says, memory_code};
-ghost use Rattle.codes.specs.Counted.{Counted};
+ghost use Rattle.codes.specs.Counted.{Counted, code_or};
 
 use definition::answers::{Refusal, Slot};
 
@@ -30,21 +30,26 @@ fn refusal_code(refusal: Refusal) -> u64
 pub fn words_code(answer: Result<usize, Refusal>) -> u64
     ensures { result ≡ value_code (words_say answer) }
 {
+    answer.map_or_else(refusal_code, |words| words as u64)
+}
+
+// A number of nodes or bytes, or the number that stands for none.
+#[tactic(auto, unfolding(crate::specs::Counted::code_or))]
+fn code_or(answer: Result<Option<usize>, Refusal>, none: u32) -> u64
+    ensures { result ≡ code_or none answer }
+{
     match answer {
-        Ok(words) => words as u64,
-        Err(refusal) => return refusal_code(refusal),
+        Ok(Some(many)) => many as u64,
+        Ok(None) => none as u64,
+        Err(refusal) => refusal_code(refusal),
     }
 }
 
-#[tactic(auto, unfolding(definition::specs::Answers::value_code, definition::specs::Answers::packed, definition::specs::Answers::tree_says))]
+#[tactic(auto, using(crate::proofs::Counting::tree_number))]
 pub fn tree_code(answer: Result<Option<usize>, Refusal>) -> u64
     ensures { result ≡ value_code (tree_says answer) }
 {
-    match answer {
-        Ok(Some(nodes)) => nodes as u64,
-        Ok(None) => 0, // none
-        Err(refusal) => refusal_code(refusal),
-    }
+    code_or(answer, 0)
 }
 
 // A completed initializer's kind stands above its nodes, of which there are at most 2,048.
@@ -61,13 +66,9 @@ pub fn completed_code(answer: Result<Option<Slot>, Refusal>) -> u64
 }
 
 // A structure without fields has 0 bytes, so none is a number of its own.
-#[tactic(auto, unfolding(memory_definition::specs::Answers::memory_code, definition::specs::Answers::packed, definition::specs::Answers::tree_says))]
+#[tactic(auto, using(crate::proofs::Counting::memory_number))]
 pub fn memory_code(answer: Result<Option<usize>, Refusal>) -> u64
     ensures { result ≡ memory_code (memory_says answer) }
 {
-    match answer {
-        Ok(Some(bytes)) => bytes as u64,
-        Ok(None) => 4294967295,
-        Err(refusal) => refusal_code(refusal),
-    }
+    code_or(answer, u32::MAX)
 }

@@ -7,7 +7,13 @@ use lib.ListN.{length, take, drop, set, get_or, length-append, length-drop, take
 use lib.Seq.{take-set-le, drop-set-add, get_or-drop, length-take-le, take-append-add, drop-append-add, take_at, drop_at}
 use borrow.Author.Rules.{rules}
 use borrow.Author.Tests.{eq-eqb, ne_eqb}
+use denote.Enum.Declared.{tag_of}
+use Rattle.definition.specs.contracts.records.Expression.{the_type}
+use Rattle.definition.specs.declared.records.Expression.{Expression}
+use Rattle.definition.specs.declared.records.Expression.TheVariants as expression
 use Rattle.definition.specs.Layout.{word, expressions}
+use Rattle.definition.specs.Records.{expression_of, expression_at}
+use Rattle.laws.specs.Cases.{by_kind}
 use Rattle.definition.specs.Tree.{Node}
 use Rattle.definition.specs.Complete.{written_node}
 use Rattle.complete.specs.Rewrite.{on_node, with_node, rewritten, rewrote, valued}
@@ -25,6 +31,21 @@ is-six (a ∷ b ∷ c ∷ d ∷ []) h = absurd (omega arith)
 is-six (a ∷ b ∷ c ∷ d ∷ e ∷ []) h = absurd (omega arith)
 is-six (a ∷ b ∷ c ∷ d ∷ e ∷ g ∷ l) h = six (record { name = a; kind = b; sign = c; low = d; high = e; width = g }) l
 
+-- ---- an expression that is a null, by its kind
+null-at : (f : List ℕ) (x : ℕ) → word f expressions x 0 ≡ 4 → expression_at f x ≡ expression.Null
+unfolding expression_at expression_of
+null-at f x e = rw e
+
+null-kind : (a k : ℕ) → tag_of the_type (expression_of k a) ≡ 4 → k ≡ 4
+unfolding expression_of
+null-kind a =
+    by_kind 7 (λ k. tag_of the_type (expression_of k a) ≡ 4 → k ≡ 4) (λ e. e) (λ e. e) (λ e. e) (λ e. e) (λ e. e) (λ e. e) (λ e. e)
+    (λ k e. absurd (omega arith))
+
+null-view : (f : List ℕ) (x : ℕ) → expression_at f x ≡ expression.Null → word f expressions x 0 ≡ 4
+unfolding expression_at
+null-view f x e = null-kind _ (word f expressions x 0) (ap (tag_of the_type) e)
+
 -- ---- one node, as the code finds it
 module _ (f : List ℕ) where
   reference : (l : List ℕ) → Six l → get_or l 1 0 ≡ 11 → set l 1 12 ≡ rewritten f 1 l
@@ -35,9 +56,9 @@ module _ (f : List ℕ) where
   unfolding rewritten written_node
   other l (six h m) n k = rw (ne_eqb h.kind 11 n, ne_eqb h.kind 12 k)
 
-  expression : (l : List ℕ) → Six l → get_or l 1 0 ≡ 12 → (word f expressions (get_or l 3 0) 0 ≡ 4 → ⊥) → l ≡ rewritten f 1 l
+  kept : (l : List ℕ) → Six l → get_or l 1 0 ≡ 12 → (word f expressions (get_or l 3 0) 0 ≡ 4 → ⊥) → l ≡ rewritten f 1 l
   unfolding rewritten written_node
-  expression l (six h m) e n = rw (e, ne_eqb (word f expressions h.low 0) 4 n)
+  kept l (six h m) e n = rw (e, ne_eqb (word f expressions h.low 0) 4 n)
 
   null : (l : List ℕ) → Six l → get_or l 1 0 ≡ 12 → word f expressions (get_or l 3 0) 0 ≡ 4 → set (set l 1 10) 3 0 ≡ rewritten f 1 l
   unfolding rewritten written_node
@@ -60,20 +81,20 @@ module _ (f s : List ℕ) (at : ℕ) (h : at + 6 ≤ length s) where
   pub node-other : (get_or s (at + 1) 0 ≡ 11 → ⊥) → (get_or s (at + 1) 0 ≡ 12 → ⊥) → s ≡ rewrote f 1 s at
   node-other n m = put-together s refl (other f (drop at s) here (λ q. n (sym (get_or-drop at s 1 0) ∙ q)) (λ q. m (sym (get_or-drop at s 1 0) ∙ q)))
 
-  module _ (q : get_or s (at + 1) 0 ≡ 12) {w : ℕ} (i : w ≡ word f expressions (get_or s (at + 3) 0) 0) where
-    low-here : word f expressions (get_or (drop at s) 3 0) 0 ≡ w
-    low-here = ap (λ (x : ℕ). word f expressions x 0) (get_or-drop at s 3 0) ∙ sym i
+  module _ (q : get_or s (at + 1) 0 ≡ 12) {x : Expression} (i : x ≡ expression_at f (get_or s (at + 3) 0)) where
+    low-here : word f expressions (get_or (drop at s) 3 0) 0 ≡ word f expressions (get_or s (at + 3) 0) 0
+    low-here = ap (λ (x : ℕ). word f expressions x 0) (get_or-drop at s 3 0)
 
-    pub node-expression : (w ≡ 4 → ⊥) → s ≡ rewrote f 1 s at
-    node-expression m = put-together s refl (expression f (drop at s) here (get_or-drop at s 1 0 ∙ q) (λ z. m (sym low-here ∙ z)))
+    pub node-expression : (x ≡ expression.Null → ⊥) → s ≡ rewrote f 1 s at
+    node-expression m = put-together s refl (kept f (drop at s) here (get_or-drop at s 1 0 ∙ q) (λ z. m (i ∙ null-at f _ (sym low-here ∙ z))))
 
-    pub node-null : w ≡ 4 → {new : List ℕ} → new ≡ set (set s (at + 1) 10) (at + 3) 0 → new ≡ rewrote f 1 s at
+    pub node-null : x ≡ expression.Null → {new : List ℕ} → new ≡ set (set s (at + 1) 10) (at + 3) 0 → new ≡ rewrote f 1 s at
     node-null z d =
         d
         ∙ put-together (set (set s (at + 1) 10) (at + 3) 0)
         (take-set-le at (set s (at + 1) 10) (at + 3) 0 (omega arith) ∙ take-set-le at s (at + 1) 10 (omega arith))
         (drop-set-add at (set s (at + 1) 10) 3 0 ∙ ap (λ (l : List ℕ). set l 3 0) (drop-set-add at s 1 10)
-        ∙ null f (drop at s) here (get_or-drop at s 1 0 ∙ q) (low-here ∙ z))
+        ∙ null f (drop at s) here (get_or-drop at s 1 0 ∙ q) (low-here ∙ null-view f _ (sym i ∙ z)))
 
 -- ---- many nodes
 module _ (f : List ℕ) where
@@ -138,18 +159,25 @@ pub record Going (f old : List ℕ) (from nodes : ℕ) (room : List ℕ) (at i :
   pub fits : at + 6 * (nodes - i) ≤ length room
   pub long : length room ≡ length old
 
-pub going-starts : (f old : List ℕ) (from nodes : ℕ) → from + 6 * nodes ≤ length old → Going f old from nodes old from 0
-going-starts f old from nodes h = let z : nodes - 0 ≡ nodes = omega arith in record { same = rw z refl; fits = omega arith; long = refl }
+pub going-starts : (f old : List ℕ) (from nodes : ℕ) → from + 6 * nodes ≤ length old → Going f old from nodes old (from + 0 * 6) 0
+going-starts f old from nodes h =
+    let z : nodes - 0 ≡ nodes = omega arith in
+    let y : from + 0 * 6 ≡ from = omega arith in
+    record { same = rw (z, y) refl; fits = omega arith; long = refl }
 
-module _ {f old : List ℕ} {from nodes : ℕ} {room : List ℕ} {at i : ℕ} (g : Going f old from nodes room at i) where
-  pub going-fits : i < nodes → at + 6 ≤ length room
+module _ {f old : List ℕ} {from nodes : ℕ} {room : List ℕ} {i : ℕ} (g : Going f old from nodes room (from + i * 6) i) where
+  pub going-fits : i < nodes → from + i * 6 + 6 ≤ length room
   going-fits h = omega (arith, g.fits)
 
-  pub going_next : i < nodes → {new : List ℕ} → new ≡ rewrote f 1 room at → Going f old from nodes new (at + 6) (i + 1)
+  pub going_next : i < nodes → {new : List ℕ} → new ≡ rewrote f 1 room (from + i * 6) → Going f old from nodes new (from + (i + 1) * 6) (i + 1)
   going_next h {new} e =
-      let l : length new ≡ length room = rw e (rewrote-length f 1 room at) in
+      let l : length new ≡ length room = rw e (rewrote-length f 1 room (from + i * 6)) in
       let k : nodes - i ≡ suc (nodes - (i + 1)) = omega arith in
-      let s : rewrote f (nodes - i) room at ≡ rewrote f (nodes - (i + 1)) new (at + 6) = ap (λ (n : ℕ). rewrote f n room at) k ∙ step f room at (nodes - (i + 1)) (going-fits h) ∙ ap (λ (x : List ℕ). rewrote f (nodes - (i + 1)) x (at + 6)) (sym e) in
+      let n : from + i * 6 + 6 ≡ from + (i + 1) * 6 = omega arith in
+      let s : rewrote f (nodes - i) room (from + i * 6) ≡ rewrote f (nodes - (i + 1)) new (from + (i + 1) * 6) =
+      ap (λ (n : ℕ). rewrote f n room (from + i * 6)) k ∙ step f room (from + i * 6) (nodes - (i + 1)) (going-fits h)
+      ∙ ap (λ (x : List ℕ). rewrote f (nodes - (i + 1)) x (from + i * 6 + 6)) (sym e) ∙ ap (rewrote f (nodes - (i + 1)) new) n
+      in
       record { same = sym s ∙ g.same; fits = omega (arith, g.fits); long = l ∙ g.long }
 
   pub going-long : length room ≡ length old
@@ -157,7 +185,7 @@ module _ {f old : List ℕ} {from nodes : ℕ} {room : List ℕ} {at i : ℕ} (g
 
   pub going-ends : nodes ≤ i → room ≡ rewrote f nodes old from
   unfolding rewrote rewritten
-  going-ends h = let z : nodes - i ≡ 0 = omega arith in sym (take-append-drop at room) ∙ rw z at g.same
+  going-ends h = let z : nodes - i ≡ 0 = omega arith in sym (take-append-drop (from + i * 6) room) ∙ rw z at g.same
 
 -- ---- a slot's value
 module _ (f : List ℕ) (s : List ℕ) (at end : ℕ) {kind : ℕ} where

@@ -24,10 +24,7 @@ fn complete_tree(file: &Source<'_>, v: u32, room: &mut [u32], at: usize, end: us
     requires { (at + 6 ≤ end) × (end ≤ length room.old) }
     ensures { Completing file.now v room.old at end result room.new }
 {
-    let kind = completed_kind(file, v, room[at + 1]);
-    if kind == 0 {
-        return None;
-    }
+    let kind = completed_kind(file, v, room[at + 1])?;
     write_value(file, kind, room, at, end);
     Some(kind)
 }

@@ -4,7 +4,8 @@
 ghost use Rattle.std.specs.Prelude.{◌≡◌, ◌+◌, ◌*◌, ◌≤◌, length, set};
 ghost use Rattle.complete.specs.Rewrite.{rewrote, valued};
 
-use definition::layout::{EXPRESSIONS, NODE_WORDS};
+use definition::layout::NODE_WORDS;
+use definition::records::Expression;
 use records::source::Source;
 
 fn write_null(room: &mut [u32], at: usize)
@@ -21,18 +22,15 @@ fn write_node(file: &Source<'_>, room: &mut [u32], at: usize)
     requires { at + 6 ≤ length room.old }
     ensures { room.new ≡ rewrote file.now 1 room.old at }
 {
-    let kind = room[at + 1];
-    if kind == 11 {
-        room[at + 1] = 12;
-        return;
+    match room[at + 1] {
+        11 => room[at + 1] = 12,
+        12 => {
+            if let Expression::Null = file.expression(room[at + 3]) {
+                write_null(room, at);
+            }
+        }
+        _ => {}
     }
-    if kind != 12 {
-        return;
-    }
-    if file.word(EXPRESSIONS, room[at + 3], 0) != 4 {
-        return;
-    }
-    write_null(room, at);
 }
 
 // So many nodes from a place on.
@@ -40,10 +38,8 @@ fn write_nodes(file: &Source<'_>, room: &mut [u32], from: usize, nodes: usize)
     requires { from + 6 * nodes ≤ length room.old }
     ensures { room.new ≡ rewrote file.now nodes room.old from }
 {
-    let mut at = from;
-    for _ in 0..nodes {
-        write_node(file, room, at);
-        at += NODE_WORDS;
+    for i in 0..nodes {
+        write_node(file, room, from + i * NODE_WORDS);
     }
 }
 

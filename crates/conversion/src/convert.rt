@@ -6,17 +6,19 @@ ghost use Rattle.definition.specs.Tree.{flatten, constant_tree};
 ghost use Rattle.definition.specs.Ask.{ok, result_of};
 ghost use Rattle.definition.specs.Scalar.{as_tree};
 ghost use Rattle.definition.specs.Answers.{number_of, over, tree_says, tree_answer};
+ghost use Rattle.definition.specs.Accept.{need};
+ghost use Rattle.acceptance.specs.Admitted.{refusal_in};
 ghost use Rattle.conversion.specs.Convert as Convert;
 ghost use Rattle.conversion.specs.Convert.{Both, value_at, convert_refused, convert_answer, convert_out};
 
-use acceptance::accept::accepted;
+use acceptance::accept::held;
+use acceptance::admit::admit;
 use definition::answers::Refusal;
-use definition::layout::{CONSTANTS, NODE_WORDS, SHAPES};
+use definition::layout::{CONSTANTS, SHAPES};
 use definition::records::Constant;
 use places::values::constant_value;
 use records::file::File;
-use records::source::Source;
-use scalar::node::node;
+use tree::node::write_leaf;
 
 fn value_at(file: &File<'_>, shape: u32, constant: u32) -> Option<Constant>
     requires { Both file.now.source shape constant }
@@ -26,22 +28,19 @@ fn value_at(file: &File<'_>, shape: u32, constant: u32) -> Option<Constant>
     constant_value(file, s, constant)
 }
 
-fn there(file: &Source<'_>, shape: u32, constant: u32) -> bool
-    ensures { result ≡ Convert.there file.now shape constant }
+// Both numbers are a record's.
+fn there(file: &File<'_>, shape: u32, constant: u32) -> Result<(), Refusal>
+    ensures { refusal_in result ≡ need (Convert.there file.now.source shape constant) 7 (λ u. 0) }
 {
-    shape < file.count(SHAPES) && constant < file.count(CONSTANTS)
+    held(shape < file.source.count(SHAPES), Refusal::Missing)?;
+    held(constant < file.source.count(CONSTANTS), Refusal::Missing)
 }
 
 // The accepted file that these words are, where both numbers are a record's, or its first refusal.
 fn asked(words: &[u32], shape: u32, constant: u32) -> Result<File<'_>, Refusal>
     ensures { MatchResult result (λ file. (file.source ≡ words.now) × (convert_refused words.now shape constant ≡ 0)) (λ refusal. number_of refusal ≡ convert_refused words.now shape constant) }
 {
-    let file = accepted(words)?;
-    if there(&file.source, shape, constant) {
-        Ok(file)
-    } else {
-        Err(Refusal::Missing)
-    }
+    admit(words, |file| there(file, shape, constant))
 }
 
 // Writes a constant's node where there is room.
@@ -49,11 +48,7 @@ fn put(c: Constant, out: &mut [u32]) -> Result<Option<usize>, Refusal>
     ensures says { tree_says result ≡ tree_answer (ok (constant_tree c)) (length out.old) }
     ensures wrote { out.new ≡ over (flatten (constant_tree c)) out.old }
 {
-    if out.len() < NODE_WORDS {
-        return Err(Refusal::Short);
-    }
-    let words = node(c);
-    out[..NODE_WORDS].copy_from_slice(&words);
+    write_leaf(out, 0, c).ok_or(Refusal::Short)?;
     Ok(Some(1))
 }
 

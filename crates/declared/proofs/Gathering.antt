@@ -68,7 +68,7 @@ pub record Gathering (f : List ℕ) (place : Place) (section first total : ℕ) 
   pub stands : Stand room (at + 6) (flatten_all trees) to
   pub comes : peek M (parts_from f place section first total 0 0) ≡ then_peek (peek M (parts_from f place section k (first + total - k) made (nodes_in trees))) (behind trees)
 
-pub record SoFar (f known store : List ℕ) (place : Place) (section first total at : ℕ) (old : List ℕ) (k made to : ℕ) (room : List ℕ) : Type 0 where
+pub record SoFar (f index store : List ℕ) (place : Place) (section first total at : ℕ) (old : List ℕ) (k made to : ℕ) (room : List ℕ) : Type 0 where
   pub runs : k ≤ first + total
   pub starts : first ≤ k
   pub few : first + made ≤ k
@@ -77,9 +77,9 @@ pub record SoFar (f known store : List ℕ) (place : Place) (section first total
   pub fits : at + 6 ≤ length old
   pub long : length room ≡ length old
   pub kept : take at room ≡ take at old
-  pub gives : (M : Memo) → Memory f known store M → Gathering f place section first total M at k made to room
+  pub gives : (M : Memo) → Memory f index store M → Gathering f place section first total M at k made to room
 
-module _ (f known store : List ℕ) (place : Place) (section first total at : ℕ) (old : List ℕ) where
+module _ (f index store : List ℕ) (place : Place) (section first total at : ℕ) (old : List ℕ) where
   -- the whole
   abbrev all : Ask (Result Tree)
   all = structured (parts_from f place section first total)
@@ -95,7 +95,7 @@ module _ (f known store : List ℕ) (place : Place) (section first total at : �
       let e : first + total - first ≡ total = omega arith in
       rw e (start M)
 
-  pub so-far-none : at + 6 ≤ length old → SoFar f known store place section first total at old first 0 (at + 6) old
+  pub so-far-none : at + 6 ≤ length old → SoFar f index store place section first total at old first 0 (at + 6) old
   so-far-none h =
       record {
         runs = omega arith;
@@ -109,8 +109,8 @@ module _ (f known store : List ℕ) (place : Place) (section first total at : �
         gives = λ M m. record { trees = tnil; counts = many-nil; sizes = omega (arith, nodes-nil); stands = no-trees old at h; comes = begins M };
       }
 
-  module _ {k made to : ℕ} {room : List ℕ} (x : SoFar f known store place section first total at old k made to room) where
-    pub so_far_skip : {b : Bool} → b ≡ is_part f section k → b ≡ false → k < first + total → SoFar f known store place section first total at old (k + 1) made to room
+  module _ {k made to : ℕ} {room : List ℕ} (x : SoFar f index store place section first total at old k made to room) where
+    pub so_far_skip : {b : Bool} → b ≡ is_part f section k → b ≡ false → k < first + total → SoFar f index store place section first total at old (k + 1) made to room
     so_far_skip i e h =
         record {
           runs = omega (arith, x.runs);
@@ -131,13 +131,13 @@ module _ (f known store : List ℕ) (place : Place) (section first total at : �
               };
         }
 
-    pub so-far-all : k ≡ first + total → {r : Built} {new : List ℕ} → HeadsStructure at made to room r new → Builds f known store flatten all at old r new
+    pub so-far-all : k ≡ first + total → {r : Built} {new : List ℕ} → HeadsStructure at made to room r new → Builds f index store flatten all at old r new
     so-far-all h {r} {new} z = record { gives = go; kept = ap (take at) z.is ∙ paste-kept room at (head_words 14 made) 6 (omega (arith, x.fits, x.long)) ∙ x.kept }
       where
         none_left : first + total - k ≡ 0
         none_left = omega arith
 
-        go : (M : Memo) → Memory f known store M → Gives flatten (peek M all) at r new
+        go : (M : Memo) → Memory f index store M → Gives flatten (peek M all) at r new
         go M m =
             let y = x.gives M m in
             let p : peek M (parts_from f place section k (first + total - k) made (nodes_in y.trees)) ≡ got (ok tnil) =
@@ -156,10 +156,10 @@ module _ (f known store : List ℕ) (place : Place) (section first total at : �
 
       module _ {r : Built} {new : List ℕ} where
         -- what `?` hands on
-        pub so-far-fails : {u : Unbuilt} → BuildsPart f known store place section k at to room (Err u) new → r ≡ Err u → Builds f known store flatten all at old r new
+        pub so-far-fails : {u : Unbuilt} → BuildsPart f index store place section k at to room (Err u) new → r ≡ Err u → Builds f index store flatten all at old r new
         so-far-fails z q = record { gives = go; kept = kept-before at to new room (omega (arith, x.after)) z.kept ∙ x.kept }
           where
-            go : (M : Memo) → Memory f known store M → Gives flatten (peek M all) at r new
+            go : (M : Memo) → Memory f index store M → Gives flatten (peek M all) at r new
             go M m =
                 let y = x.gives M m in
                 let p = peek-all M ∙ ap (λ w. then_peek w (λ ts. got (ok (structure_tree ts)))) (y.comes ∙ ap (λ w. then_peek w (behind y.trees)) (next M (nodes_in y.trees)))
@@ -167,7 +167,7 @@ module _ (f known store : List ℕ) (place : Place) (section first total at : �
                 ∙ then-assoc (peek M (part_ask f place section k (nodes_in y.trees))) _ (λ ts. got (ok (structure_tree ts))) in
                 rw p (gives-err flatten at new (peek M (part_ask f place section k (nodes_in y.trees))) (z.gives (nodes_in y.trees) y.sizes M m) _ q)
 
-        pub so_far_more : BuildsPart f known store place section k at to room r new → {end : ℕ} → r ≡ Ok end → length new ≡ length room → SoFar f known store place section first total at old (k + 1) (made + 1) end new
+        pub so_far_more : BuildsPart f index store place section k at to room r new → {end : ℕ} → r ≡ Ok end → length new ≡ length room → SoFar f index store place section first total at old (k + 1) (made + 1) end new
         so_far_more z {end} q l =
             let d = z.ends end q in
             record {
@@ -182,7 +182,7 @@ module _ (f known store : List ℕ) (place : Place) (section first total at : �
               gives = go;
             }
           where
-            go : (M : Memo) → Memory f known store M → Gathering f place section first total M at (k + 1) (made + 1) end new
+            go : (M : Memo) → Memory f index store M → Gathering f place section first total M at (k + 1) (made + 1) end new
             go M m =
                 let y = x.gives M m in
                 let v = gives-ends (peek M (part_ask f place section k (nodes_in y.trees))) (z.gives (nodes_in y.trees) y.sizes M m) q in

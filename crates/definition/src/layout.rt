@@ -60,6 +60,7 @@ fn of_section(table: &[usize], section: usize) -> usize
 }
 
 // How many words a record of a section has.
+#[tactic(auto, unfolding(crate::specs::Layout::record_words, crate::specs::Layout::words_of_records))]
 pub fn record_words(section: usize) -> usize
     ensures { result ≡ record_words section }
 {
@@ -67,6 +68,7 @@ pub fn record_words(section: usize) -> usize
 }
 
 // The most records that a section may have.
+#[tactic(auto, unfolding(crate::specs::Layout::most_records, crate::specs::Layout::limits_of_records))]
 pub fn most_records(section: usize) -> usize
     ensures { result ≡ most_records section }
 {

@@ -130,7 +130,7 @@ pub enum Expression {
 }
 
 // The Rust's `ConstantKind`: the same five words in every kind, which a node holds too.
-#[derive(Clone, Copy)]
+#[derive(Clone, Copy, PartialEq, Eq)]
 pub struct Constant {
     pub kind: u32,
     pub sign: u32,

@@ -1,6 +1,6 @@
 -- A law for each call and each return of asked.rt. Assumes nothing.
 use mathlib.Core.Path.{◌≡◌, refl, ap, sym, subst, ◌∙◌}
-use mathlib.Core.Bool.{Bool, true, false, ◌&&◌}
+use mathlib.Core.Bool.{Bool, true, false, not}
 use mathlib.Core.List.{List, [], ◌∷◌, ◌++◌}
 use Prim.Native.Nat.{ℕ, zero, suc, ◌+◌, ◌-◌, ◌≤◌, ◌<◌, min}
 use native.Mathlib.Omega.{arith}
@@ -9,10 +9,13 @@ use native.Mathlib.Nat.{zero-add, suc-add}
 use lib.Dec.{eqb}
 use lib.ListN.{length, get_or}
 use borrow.Author.Rules.{rules}
-use borrow.Author.Tests.{eqb-true, eqb-false}
+use borrow.Author.Tests.{eqb-true, eqb-false, ne_eqb}
 use Rattle.definition.specs.Base.{pick}
-use Rattle.definition.specs.Layout.{count, types}
-use Rattle.definition.specs.Records.{declaration_kind}
+use Rattle.definition.specs.Layout.{count, types, word}
+use Rattle.definition.specs.Records.{declaration_kind, declaration_of, declaration_at}
+use Rattle.definition.specs.declared.records.Declaration.{Declaration}
+use Rattle.definition.specs.declared.records.Declaration.TheVariants as decl
+use Rattle.laws.specs.Cases.{by_kind}
 use Rattle.definition.specs.Ask.{Outcome, type_default}
 use Rattle.definition.specs.Starting.{body, remembered}
 use Rattle.definition.specs.Answers.{cleared}
@@ -21,14 +24,13 @@ use Rattle.definition.specs.Resolve.{Look, known, unknown, on_look, Memo, at, em
 use Rattle.laws.specs.Memo.{empty-long}
 use Rattle.lines.specs.Append.{most_words}
 use Rattle.lines.proofs.Memories.{remembers-empty}
-use Rattle.build.specs.Built.{index_at, index_in}
-use Rattle.driver.specs.Driver.{width, Holding, ran, resolved, After, Resolves, Given, Held, Fresh}
-use Rattle.driver.specs.Asked.{asked, asked_one, each_memo, declared_memo, Recalls, RecallsOne, Asking, AsksEach, Declares}
+use Rattle.driver.specs.Driver.{width, Holding, ran, resolved, After, Resolves, Prepared, Held, Fresh}
+use Rattle.driver.specs.Asked.{asked, asked_one, each_memo, is_declared, declared_memo, Recalls, Tell, Asking, AsksEach, Declares}
 use Rattle.driver.specs.Every.{every_memo, ResolvesAll}
-use Rattle.driver.proofs.Tabling.{index-long, front_same, front-then}
+use Rattle.lines.proofs.Lending.{lends-same, lends-then}
 use Rattle.driver.proofs.Widths.{run-width, spent-empty}
 use Rattle.driver.proofs.Holdings.{fresh-unknown, unknown-fresh}
-use Rattle.driver.proofs.Settling.{given-kept}
+use Rattle.driver.proofs.Settling.{prepared-kept}
 use Rattle.std.specs.Prelude.{None, Option, Some}
 
 -- ---- a type that is asked for
@@ -54,21 +56,21 @@ module _ (f : List ℕ) (M : Memo) (t : ℕ) where
   unfolding ran
   asked-width = rw asked-run at (run-width (body f) (count f types) (type_default t) M)
 
-  pub one-left : (only : Bool) → only && eqb (declaration_kind f t) 0 ≡ true → asked_one f only M t ≡ M
+  pub one-left : (asks : ℕ → Bool) → asks t ≡ false → asked_one f asks M t ≡ M
   unfolding asked_one
-  one-left only e = rw e
+  one-left asks e = rw e
 
-  pub one-asked : (only : Bool) → only && eqb (declaration_kind f t) 0 ≡ false → asked_one f only M t ≡ asked f M t
+  pub one-asked : (asks : ℕ → Bool) → asks t ≡ true → asked_one f asks M t ≡ asked f M t
   unfolding asked_one
-  one-asked only e = rw e
+  one-asked asks e = rw e
 
-  one-width : (only : Bool) → width M ≤ width (asked_one f only M t)
+  one-width : (asks : ℕ → Bool) → width M ≤ width (asked_one f asks M t)
   unfolding asked_one
-  one-width only = go (only && eqb (declaration_kind f t) 0)
+  one-width asks = go (asks t)
     where
-      go : (b : Bool) → width M ≤ width (pick b M (asked f M t))
-      go true = omega arith
-      go false = asked-width
+      go : (b : Bool) → width M ≤ width (pick b (asked f M t) M)
+      go true = asked-width
+      go false = omega arith
 
 -- ---- one list after another
 asking-append : (res : Resolver) (l l' : List ℕ) (M : Memo) → (run res M (asking (l ++ l'))).memo ≡ (run res (run res M (asking l)).memo (asking l')).memo
@@ -83,20 +85,20 @@ asking-append res (d ∷ l) l' M = go (at M d) (asking-append res l l')
     go unknown ih = ih (res M d).memo
 
 module _ (f : List ℕ) where
-  each-none : (only : Bool) → each_memo f only 0 ≡ empty (count f types)
+  each-none : (asks : ℕ → Bool) → each_memo f asks 0 ≡ empty (count f types)
   unfolding each_memo
-  each-none only = refl
+  each-none asks = refl
 
-  each-next : (only : Bool) (t : ℕ) → each_memo f only (suc t) ≡ asked_one f only (each_memo f only t) t
+  each-next : (asks : ℕ → Bool) (t : ℕ) → each_memo f asks (suc t) ≡ asked_one f asks (each_memo f asks t) t
   unfolding each_memo
-  each-next only t = refl
+  each-next asks t = refl
 
-  each-width : (only : Bool) (k t : ℕ) → width (each_memo f only t) ≤ width (each_memo f only (k + t))
-  each-width only zero t = rw zero-add (omega arith)
-  each-width only (suc k) t = rw suc-add (rw (each-next only (k + t)) (omega (arith, each-width only k t, one-width f (each_memo f only (k + t)) (k + t) only)))
+  each-width : (asks : ℕ → Bool) (k t : ℕ) → width (each_memo f asks t) ≤ width (each_memo f asks (k + t))
+  each-width asks zero t = rw zero-add (omega arith)
+  each-width asks (suc k) t = rw suc-add (rw (each-next asks (k + t)) (omega (arith, each-width asks k t, one-width f (each_memo f asks (k + t)) (k + t) asks)))
 
   -- all types
-  every-asked : (t : ℕ) → each_memo f false t ≡ every_memo f t
+  every-asked : (t : ℕ) → each_memo f (λ t. true) t ≡ every_memo f t
   unfolding each_memo every_memo asked_one
   every-asked zero = refl
   every-asked (suc t) = ap (λ (M : Memo). asked f M t) (every-asked t)
@@ -120,24 +122,53 @@ module _ (f : List ℕ) where
   unfolding declared_memo ran Resolve.remembered resolve_all
   declared-all = refl
 
-  declared-next : (t : ℕ) → declared_memo f (suc t) ≡ asked_one f true (declared_memo f t) t
+  other_way : (b : Bool) (N L : Memo) → pick b N L ≡ pick (not b) L N
+  other_way true N L = refl
+  other_way false N L = refl
+
+  declared-next : (t : ℕ) → declared_memo f (suc t) ≡ asked_one f (is_declared f) (declared_memo f t) t
   unfolding declared_memo ran declared_below asked_one
   declared-next t =
       let b = eqb (declaration_kind f t) 0 in
       let N = (run (resolve (body f) (count f types)) (empty (count f types)) (asking (declared_below f t))).memo in
-      asking-append (resolve (body f) (count f types)) (declared_below f t) (pick b [] (t ∷ [])) (empty (count f types)) ∙ one_more N t b
+      asking-append (resolve (body f) (count f types)) (declared_below f t) (pick b [] (t ∷ [])) (empty (count f types)) ∙ one_more N t b ∙ other_way b N (asked f N t)
 
-  declared-asked : (t : ℕ) → each_memo f true t ≡ declared_memo f t
-  declared-asked zero = each-none true ∙ sym declared-none
-  declared-asked (suc t) = each-next true t ∙ ap (λ (M : Memo). asked_one f true M t) (declared-asked t) ∙ sym (declared-next t)
+  declared-asked : (t : ℕ) → each_memo f (is_declared f) t ≡ declared_memo f t
+  declared-asked zero = each-none (is_declared f) ∙ sym declared-none
+  declared-asked (suc t) = each-next (is_declared f) t ∙ ap (λ (M : Memo). asked_one f (is_declared f) M t) (declared-asked t) ∙ sym (declared-next t)
+
+-- ---- `is_declared`
+nothing-kind : (kind named start first many : ℕ) → declaration_of kind named start first many ≡ decl.Nothing → kind ≡ 0
+unfolding declaration_of
+nothing-kind kind named start first many =
+    by_kind 10 (λ k. declaration_of k named start first many ≡ decl.Nothing → k ≡ 0)
+    (λ e. refl)
+    (λ e. let z : ◌≡◌ {A = ℕ} 0 1 = cc in absurd (omega arith))
+    (λ e. let z : ◌≡◌ {A = ℕ} 0 1 = cc in absurd (omega arith))
+    (λ e. let z : ◌≡◌ {A = ℕ} 0 1 = cc in absurd (omega arith))
+    (λ e. let z : ◌≡◌ {A = ℕ} 0 1 = cc in absurd (omega arith))
+    (λ e. let z : ◌≡◌ {A = ℕ} 0 1 = cc in absurd (omega arith))
+    (λ e. let z : ◌≡◌ {A = ℕ} 0 1 = cc in absurd (omega arith))
+    (λ e. let z : ◌≡◌ {A = ℕ} 0 1 = cc in absurd (omega arith))
+    (λ e. let z : ◌≡◌ {A = ℕ} 0 1 = cc in absurd (omega arith))
+    (λ e. let z : ◌≡◌ {A = ℕ} 0 1 = cc in absurd (omega arith))
+    (λ k e. let z : ◌≡◌ {A = ℕ} 0 1 = cc in absurd (omega arith))
+    kind
+
+module _ (f : List ℕ) (t : ℕ) {d : Declaration} (q : d ≡ declaration_at f t) where
+  pub declared-not : d ≡ decl.Nothing → false ≡ is_declared f t
+  unfolding declaration_at declaration_of
+  declared-not i = let k : declaration_kind f t ≡ 0 = nothing-kind (declaration_kind f t) _ _ _ _ (sym q ∙ i) in rw k
+
+  pub declared-so : (d ≡ decl.Nothing → ⊥) → true ≡ is_declared f t
+  unfolding declaration_at declaration_of
+  declared-so n = rw (ne_eqb (declaration_kind f t) 0 (λ e. n (q ∙ ap (λ (k : ℕ). declaration_of k (word f types t 5) (word f types t 6) (word f types t 7) (word f types t 8)) e)))
+
+pub ruleset declaring = (rules, declared-not, declared-so)
 
 -- ---- `ask_type`
-module _ {f known : List ℕ} {room : ℕ} (g : Given f known room) where
-  pub word-inside : (t : ℕ) → t < count f types → index_at + t < length known
-  word-inside t l = omega (arith, g.tables)
-
-  pub index-inside : count f types ≤ length (index_in known)
-  index-inside = omega (arith, g.tables, index-long known)
+pub word-inside : {f classes : List ℕ} {n room : ℕ} → Prepared f classes n room → (t : ℕ) → t < count f types → t < n
+word-inside g t l = omega (arith, g.typed)
 
 module _ {f index store : List ℕ} {end t : ℕ} (h : Held f index store end) (l : t < count f types) where
   module _ {b : Bool} (q : b ≡ eqb (get_or index t 0) 0) where
@@ -155,59 +186,63 @@ module _ {f index store : List ℕ} {end t : ℕ} (h : Held f index store end) (
         go M x (known o) i = rw (asked-known f M t o i) x
         go M x unknown i = absurd (eqb-false (get_or index t 0) 0 (sym q ∙ e) (unknown-fresh x t i))
 
--- ---- `ask_one`
-module _ {f : List ℕ} {only : Bool} {t : ℕ} {b : Bool} (q : b ≡ eqb (declaration_kind f t) 0) where
-  pub left-old : only && b ≡ true → {index store : List ℕ} {end : ℕ} → RecallsOne f only t index store end (Some end) index store
-  left-old e = record { gives = λ M x. rw (one-left f M t only (ap (λ (c : Bool). only && c) (sym q) ∙ e)) x }
-
-  pub one-new : only && b ≡ false → {index store : List ℕ} {end : ℕ} {r : Option ℕ} {index' store' : List ℕ} → Recalls f t index store end r index' store' → RecallsOne f only t index store end r index' store'
-  one-new e s = record { gives = λ M x. rw (one-asked f M t only (ap (λ (c : Bool). only && c) (sym q) ∙ e)) (s.gives M x) }
-
-pub ruleset asks = (rules, front_same, word-inside, held-fresh, recalls-new, recalls-old, left-old, one-new)
+pub ruleset asks = (rules, lends-same, word-inside, held-fresh, recalls-new, recalls-old)
 
 -- ---- `resolve_each`
-pub asking-start : (f : List ℕ) (only : Bool) (words store : List ℕ) {index : List ℕ} → index ≡ cleared words → count f types ≤ length words → Asking f only index store 0 0
-asking-start f only words store i h =
-    record {
-      holding = rw (each-none f only) (rw i (record { remembers = remembers-empty words store 0 (count f types) h (omega arith); all = empty-long (count f types); spends = sym (spent-empty (count f types) (cleared words)) }));
-      most = omega arith;
-    }
+pub asking-start : (f : List ℕ) (answers : ℕ → Bool → Type 0) (words store : List ℕ) {index : List ℕ} → index ≡ cleared words → {e : ℕ} → e ≡ 0 → count f types ≤ length words
+    → Asking f answers index store e 0
+asking-start f answers words store {index} i {e} j h =
+    record { held = record { memo = empty (count f types); holding = start }; holding = λ asks k. rw (each-none f asks) start; most = omega arith }
+  where
+    start : Holding f index store e (empty (count f types))
+    start = rw (i, j) (record { remembers = remembers-empty words store 0 (count f types) h (omega arith); all = empty-long (count f types); spends = sym (spent-empty (count f types) (cleared words)) })
 
-module _ {f : List ℕ} {only : Bool} {index store : List ℕ} {end t : ℕ} (x : Asking f only index store end t) where
-  pub asking-held : Held f index store end
-  asking-held = record { memo = each_memo f only t; holding = x.holding }
+module _ {f : List ℕ} {answers : ℕ → Bool → Type 0} {index store : List ℕ} {end t : ℕ} (x : Asking f answers index store end t) where
+  pub asking-done : {n : ℕ} → n ≡ count f types → n ≤ t → AsksEach f answers (Some end) index store
+  asking-done e h =
+      let k : t ≡ count f types = omega (arith, x.most) in
+      record { after = λ asks q. subst (λ (n : ℕ). Holding f index store end (each_memo f asks n)) k (x.holding asks q) }
 
-  pub asking-done : {n : ℕ} → n ≡ count f types → n ≤ t → AsksEach f only (Some end) index store
-  asking-done e h = let k : t ≡ count f types = omega (arith, x.most) in record { after = subst (λ (n : ℕ). Holding f index store end (each_memo f only n)) k x.holding }
-
-  module _ (l : t < count f types) {r : Option ℕ} {index' store' : List ℕ} (s : RecallsOne f only t index store end r index' store') where
-    pub asking-next : {e : ℕ} → r ≡ Some e → Asking f only index' store' e (t + 1)
-    asking-next i =
+  module _ (l : t < count f types) {b : Bool} (a : answers t b) where
+    -- one that is not asked for
+    pub asking-left : b ≡ false → Asking f answers index store end (t + 1)
+    asking-left i =
         record {
-          holding = rw (add-one t, each-next f only t) (subst (λ (a : Option ℕ). After f a index' store' (asked_one f only (each_memo f only t) t)) i (s.gives (each_memo f only t) x.holding));
+          held = x.held;
+          holding = λ asks q. rw (add-one t, each-next f asks t, one-left f (each_memo f asks t) t asks (sym (q t b a) ∙ i)) (x.holding asks q);
           most = omega arith;
         }
 
-    pub asking-full : r ≡ None → {r' : Option ℕ} → r' ≡ None → AsksEach f only r' index' store'
-    asking-full i j =
-        let g : min (length store') most_words < width (asked_one f only (each_memo f only t) t) = subst (λ (a : Option ℕ). After f a index' store' (asked_one f only (each_memo f only t) t)) i (s.gives (each_memo f only t) x.holding) in
-        record { after = subst (λ (a : Option ℕ). After f a index' store' (each_memo f only (count f types))) (sym j) (most g) }
-      where
-        most : min (length store') most_words < width (asked_one f only (each_memo f only t) t) → min (length store') most_words < width (each_memo f only (count f types))
-        most g =
-            let k : (count f types - suc t) + suc t ≡ count f types = omega arith in
-            let w : width (each_memo f only (suc t)) ≤ width (each_memo f only (count f types)) = rw k at (each-width f only (count f types - suc t) (suc t)) in
-            let v : width (each_memo f only (suc t)) ≡ width (asked_one f only (each_memo f only t) t) = ap width (each-next f only t) in
-            omega arith
+    module _ (i : b ≡ true) {r : Option ℕ} {index' store' : List ℕ} (s : Recalls f t index store end r index' store') where
+      recalled : (asks : ℕ → Bool) → Tell answers asks → After f r index' store' (each_memo f asks (suc t))
+      recalled asks q = rw (each-next f asks t, one-asked f (each_memo f asks t) t asks (sym (q t b a) ∙ i)) (s.gives (each_memo f asks t) (x.holding asks q))
 
-pub ruleset each = (rules, given-kept, front-then, index-inside, asking-start, asking-held, asking-done, asking-next, asking-full)
+      pub asking-next : {e : ℕ} → r ≡ Some e → Asking f answers index' store' e (t + 1)
+      asking-next j =
+          record {
+            held = record { memo = asked f x.held.memo t; holding = subst (λ (a : Option ℕ). After f a index' store' (asked f x.held.memo t)) j (s.gives x.held.memo x.held.holding) };
+            holding = λ asks q. rw (add-one t) (subst (λ (a : Option ℕ). After f a index' store' (each_memo f asks (suc t))) j (recalled asks q));
+            most = omega arith;
+          }
+
+      pub asking-full : r ≡ None → {r' : Option ℕ} → r' ≡ None → AsksEach f answers r' index' store'
+      asking-full j k = record { after = λ asks q. subst (λ (a : Option ℕ). After f a index' store' (each_memo f asks (count f types))) (sym k) (full asks q) }
+        where
+          full : (asks : ℕ → Bool) → Tell answers asks → min (length store') most_words < width (each_memo f asks (count f types))
+          full asks q =
+              let g : min (length store') most_words < width (each_memo f asks (suc t)) = subst (λ (a : Option ℕ). After f a index' store' (each_memo f asks (suc t))) j (recalled asks q) in
+              let k : (count f types - suc t) + suc t ≡ count f types = omega arith in
+              let w : width (each_memo f asks (suc t)) ≤ width (each_memo f asks (count f types)) = rw k at (each-width f asks (count f types - suc t) (suc t)) in
+              omega arith
+
+pub ruleset each = (rules, prepared-kept, lends-then, asking-start, asking-done, asking-left, asking-next, asking-full)
 
 -- ---- `resolve_declared` and `resolve_types`
-module _ {f : List ℕ} {r : Option ℕ} {index store : List ℕ} where
-  pub declares-each : AsksEach f true r index store → Declares f r index store
-  declares-each s = record { after = subst (λ (M : Memo). After f r index store M) (declared-asked f (count f types) ∙ declared-all f) s.after }
+module _ {f : List ℕ} {answers : ℕ → Bool → Type 0} {r : Option ℕ} {index store : List ℕ} (s : AsksEach f answers r index store) where
+  pub declares-each : Tell answers (is_declared f) → Declares f r index store
+  declares-each q = record { after = subst (λ (M : Memo). After f r index store M) (declared-asked f (count f types) ∙ declared-all f) (s.after (is_declared f) q) }
 
-  pub resolves-each : AsksEach f false r index store → ResolvesAll f r index store
-  resolves-each s = record { after = subst (λ (M : Memo). After f r index store M) (every-asked f (count f types)) s.after }
+  pub resolves-each : Tell answers (λ t. true) → ResolvesAll f r index store
+  resolves-each q = record { after = subst (λ (M : Memo). After f r index store M) (every-asked f (count f types)) (s.after (λ t. true) q) }
 
 pub ruleset of_each = (rules, declares-each, resolves-each)

@@ -23,7 +23,7 @@ use Rattle.laws.specs.Peeking.{finish, restart}
 use Rattle.lines.specs.Append.{most_words, Appends}
 use Rattle.lines.specs.Memory.{Holds, Remembers}
 use Rattle.lines.proofs.Memories.{remembers-begin, remembers-wider, remembers-small}
-use Rattle.build.specs.Built.{index_in, Memory}
+use Rattle.build.specs.Built.{Memory}
 use Rattle.driver.specs.Driver.{look_words, width, spent, zeros, Holding, ran, settled, resolved, After}
 use Rattle.driver.proofs.Widths.{spent-width, none-width, run-width, spent-begin, spent-line, zeros-keep}
 use Rattle.std.specs.Prelude.{None, Option, Some}
@@ -75,7 +75,7 @@ module _ {f index store : List ℕ} {end : ℕ} {M : Memo} (x : Holding f index 
         spends = x.spends ∙ sym (spent-begin M index d u (unknown-fresh d u) x.remembers.wide);
       }
 
-pub to-memory : {f tables store : List ℕ} {end : ℕ} {M : Memo} → Holding f (index_in tables) store end M → Memory f tables store M
+pub to-memory : {f index store : List ℕ} {end : ℕ} {M : Memo} → Holding f index store end M → Memory f index store M
 to-memory {store} x = record { remembers = remembers-wider x.remembers (length store) x.remembers.within (omega arith); all = omega (arith, x.all) }
 
 -- ---- what a computation gives

@@ -31,7 +31,7 @@ use Rattle.laws.specs.Sizes.{type-small}
 use Rattle.laws.specs.Demand.{falls}
 use Rattle.lines.specs.Append.{most_words}
 use Rattle.build.specs.Built.{Built}
-use Rattle.build.specs.Built.{index_in, Builds}
+use Rattle.build.specs.Built.{Builds}
 use Rattle.driver.specs.Driver.{look_words, width, Holding, ran, resolved, After}
 use Rattle.driver.specs.Asked.{asked}
 use Rattle.driver.specs.Told.{Tells}
@@ -124,8 +124,8 @@ module _ (f : List ℕ) (e : verdict f ≡ 0) (rank : ℕ → ℕ) (up : rising 
     every-holding i = subst (λ (a : Option ℕ). After f a index store (every_memo f (count f types))) i d.after
 
   -- a variable wants nothing then
-  pub variable-told : {r : Option ℕ} {tables store : List ℕ} → ResolvesAll f r (index_in tables) store → {end : ℕ} → r ≡ Some end → (v : ℕ) → v < count f variables
-      → {old new : List ℕ} {made : Built} → Builds f tables store flatten (declaration f v) 0 old made new → Tells (variable_outcome f v) made new
+  pub variable-told : {r : Option ℕ} {index store : List ℕ} → ResolvesAll f r index store → {end : ℕ} → r ≡ Some end → (v : ℕ) → v < count f variables
+      → {old new : List ℕ} {made : Built} → Builds f index store flatten (declaration f v) 0 old made new → Tells (variable_outcome f v) made new
   variable-told d i v l b =
       let M : Memo = every_memo f (count f types) in
       let p : peek M (declaration f v) ≡ got (look (type_outcome f) (declaration f v)) =

@@ -28,17 +28,17 @@ use Rattle.build.specs.Built.{Built}
 use Rattle.build.specs.declared.built.Unbuilt.{Unbuilt}
 use Rattle.build.specs.declared.built.Unbuilt.TheVariants as unbuilt
 use Rattle.std.specs.Option.{ok_or}
-use Rattle.build.specs.Built.{index_in, Gives, Builds}
-use Rattle.driver.specs.Driver.{width, Holding, ran, resolved, After, Resolves, Given, Held, Fresh}
+use Rattle.build.specs.Built.{Gives, Builds}
+use Rattle.driver.specs.Driver.{width, Holding, ran, resolved, After, Resolves, Prepared, Held, Fresh}
 use Rattle.driver.specs.Asked.{Declares}
 use Rattle.driver.specs.declared.told.Owner.{Owner}
 use Rattle.driver.specs.declared.told.Owner.TheVariants as owner
 use Rattle.driver.specs.Told.{Ample, Tells, TellsOf, section_in, number_in, ask_in, outcome_in}
 use Rattle.driver.proofs.Widths.{width-most}
 use Rattle.driver.proofs.Holdings.{unknown-fresh, unknown-inside, to-memory, holding-small}
-use Rattle.driver.proofs.Settling.{given-kept, to-ready, gives-wants, NoWant, wanted-not}
+use Rattle.driver.proofs.Settling.{prepared-kept, to-ready, gives-wants, NoWant, wanted-not}
 use Rattle.std.specs.Prelude.{None, Option, Some}
-use Rattle.std.specs.Prelude.{Ok, Err}
+use Rattle.std.specs.Prelude.{Result, Ok, Err}
 
 -- ---- there is room for every line
 abbrev Smalls : List ℕ → Memo → Type 0
@@ -57,13 +57,13 @@ resolved-smalls f M d u h = (resolve-held (count f types) (λ d o. OnOk Small o)
 remembered-smalls : (f : List ℕ) → Smalls f (remembered f)
 remembered-smalls f = remembered-held f (λ d o. OnOk Small o) (λ d. tt) (λ d l. any-body f d)
 
-never-full : {X : Type 0} {f known : List ℕ} {room n : ℕ} → Given f known room → Ample f n → (store : List ℕ) → length store ≡ n → (N : Memo) → Smalls f N
+never-full : {X : Type 0} {f classes : List ℕ} {wide room n : ℕ} → Prepared f classes wide room → Ample f n → (store : List ℕ) → length store ≡ n → (N : Memo) → Smalls f N
     → min (length store) most_words < width N → X
 unfolding line_words
 never-full {f} g a store e N s h = absurd (omega (arith, a.lines, few-types f g.accepted, smalls-width f N s))
 
 -- a store that is full
-pub full-of : {x : Option ℕ} {a : Built} → a ≡ ok_or x unbuilt.None → {u : Unbuilt} → a ≡ Err u → x ≡ None
+pub full-of : {A : Type 0} {x : Option A} {a : Result A Unbuilt} → a ≡ ok_or x unbuilt.None → {u : Unbuilt} → a ≡ Err u → x ≡ None
 full-of {x = Some n} k i = let z : ◌≡◌ {A = ℕ} 0 1 = cc in absurd (omega arith)
 full-of {x = None} k i = refl
 
@@ -91,46 +91,46 @@ module _ {f : List ℕ} {r : Option ℕ} {index store : List ℕ} (d : Declares 
   outcome-told i (owner.Type t) h = h.gives (remembered f) (declared-holding i)
   outcome-told i (owner.Variable v) h = h.gives (remembered f) (declared-holding i)
 
-  module _ {tables : List ℕ} {words : ℕ} (g : Given f tables words) {n : ℕ} (a : Ample f n) (l : length store ≡ n) (i : r ≡ None) where
+  module _ {classes : List ℕ} {wide words : ℕ} (g : Prepared f classes wide words) {n : ℕ} (a : Ample f n) (l : length store ≡ n) (i : r ≡ None) where
     pub outcome-never : (o : Outcome) (made : Built) (room : List ℕ) → Tells o made room
     outcome-never o made room = never-full g a store l (remembered f) (remembered-smalls f) (subst (λ (a : Option ℕ). After f a index store (remembered f)) i d.after)
 
 -- ---- a type or a variable
-module _ {f tables : List ℕ} {words : ℕ} (g : Given f tables words) {store : List ℕ} {end : ℕ} (h : Held f (index_in tables) store end) (m : Ask Outcome)
-    {old new : List ℕ} {made : Built} (b : Builds f tables store flatten m 0 old made new) where
+module _ {f classes : List ℕ} {wide words : ℕ} (g : Prepared f classes wide words) {index store : List ℕ} {end : ℕ} (h : Held f index store end) (m : Ask Outcome)
+    {old new : List ℕ} {made : Built} (b : Builds f index store flatten m 0 old made new) where
   done-tells : (M : Memo) (p : Peek Outcome) → peek M m ≡ p → Gives flatten p 0 made new → NoWant made → Tells (ran f M m).value made new
   unfolding ran
   done-tells M (got o) e q n = record { gives = rw (finish (resolve (body f) (count f types)) M m o e) q }
   done-tells M (wants d) e q n = wanted-not d (rw q.says at n)
 
-  pub tells-done : NoWant made → TellsOf f m (index_in tables) store end made new
+  pub tells-done : NoWant made → TellsOf f m index store end made new
   tells-done n = record { gives = λ M x. done-tells M (peek M m) refl (b.gives M (to-memory x)) n }
 
   module _ {d : ℕ} (q : made ≡ Err (unbuilt.Wanted d)) where
-    wants-it : (M : Memo) → Holding f (index_in tables) store end M → peek M m ≡ wants d
+    wants-it : (M : Memo) → Holding f index store end M → peek M m ≡ wants d
     wants-it M x = gives-wants (peek M m) (b.gives M (to-memory x)) q
 
-    pub asked-fresh : Fresh f (index_in tables) store end d
+    pub asked-fresh : Fresh f index store end d
     asked-fresh =
         let x = h.holding in
         let u = peek-unknown h.memo d m (wants-it h.memo x) in
         record { held = h; inside = unknown-inside x d u; word = unknown-fresh x d u }
 
-    module _ {r : Option ℕ} {index' store' : List ℕ} (s : Resolves f d (index_in tables) store end r index' store') where
-      then-holding : {e : ℕ} → r ≡ Some e → (M : Memo) → Holding f (index_in tables) store end M → Holding f index' store' e (resolved f M d)
+    module _ {r : Option ℕ} {index' store' : List ℕ} (s : Resolves f d index store end r index' store') where
+      then-holding : {e : ℕ} → r ≡ Some e → (M : Memo) → Holding f index store end M → Holding f index' store' e (resolved f M d)
       then-holding i M x = subst (λ (a : Option ℕ). After f a index' store' (resolved f M d)) i (s.gives M x)
 
       pub then-held : {e : ℕ} → r ≡ Some e → Held f index' store' e
       then-held i = record { memo = resolved f h.memo d; holding = then-holding i h.memo h.holding }
 
-      again-value : (M : Memo) → Holding f (index_in tables) store end M → ran f M m ≡ ran f (resolved f M d) m
+      again-value : (M : Memo) → Holding f index store end M → ran f M m ≡ ran f (resolved f M d) m
       unfolding ran resolved
       again-value M x = restart (body f) (count f types) M d m (wants-it M x)
 
-      pub tells-again : {e : ℕ} → r ≡ Some e → {made' : Built} {room : List ℕ} → TellsOf f m index' store' e made' room → TellsOf f m (index_in tables) store end made' room
+      pub tells-again : {e : ℕ} → r ≡ Some e → {made' : Built} {room : List ℕ} → TellsOf f m index' store' e made' room → TellsOf f m index store end made' room
       tells-again i y = record { gives = λ M x. rw (again-value M x) (y.gives (resolved f M d) (then-holding i M x)) }
 
-      pub tells-never : r ≡ None → Ample f (length store) → length store' ≡ length store → (made' : Built) (room : List ℕ) → TellsOf f m (index_in tables) store end made' room
+      pub tells-never : r ≡ None → Ample f (length store) → length store' ≡ length store → (made' : Built) (room : List ℕ) → TellsOf f m index store end made' room
       tells-never i a l made' room =
           record {
             gives = λ M x.
@@ -164,4 +164,4 @@ tells-wanted (ok t) h = let s = h.gives.says in let z : ◌≡◌ {A = ℕ} 0 1 
 tells-wanted none h = let s = h.gives.says in let z : ◌≡◌ {A = ℕ} 0 1 = cc in absurd (omega arith)
 tells-wanted large h = let s = h.gives.says in let z : ◌≡◌ {A = ℕ} 0 1 = cc in absurd (omega arith)
 
-pub ruleset tells = (rules, given-kept, ample-kept, to-ready, room-tree, declared-held)
+pub ruleset tells = (rules, prepared-kept, ample-kept, to-ready, room-tree, declared-held)

@@ -6,17 +6,17 @@ use borrow.Author.Rules.{rules}
 use Rattle.definition.specs.Layout.{count, types, variables}
 use Rattle.definition.specs.Tree.{tree_words}
 use Rattle.definition.specs.Answers.{room_words}
-use Rattle.build.specs.Built.{Ready}
+use Rattle.laws.specs.Accepted.{Accepted}
 use Rattle.initial.specs.Rooms.{body_levels, variable_levels}
 use Rattle.declared.proofs.Roomy.{roomy, body-room, declaration-room}
 
-module _ {f known store : List ℕ} (y : Ready f known store) (n : ℕ) (h : room_words f ≤ n) where
+module _ {f : List ℕ} (a : Accepted f) (n : ℕ) (h : room_words f ≤ n) where
   pub type-room : (t : ℕ) → t < count f types → 0 + body_levels f t * tree_words ≤ n
   unfolding room_words
-  type-room t l = omega (arith, body-room f y.accepted (roomy f) t l)
+  type-room t l = omega (arith, body-room f a (roomy f) t l)
 
   pub variable-room : (v : ℕ) → v < count f variables → 0 + variable_levels f v * tree_words ≤ n
   unfolding room_words
-  variable-room v l = omega (arith, declaration-room f y.accepted (roomy f) v l)
+  variable-room v l = omega (arith, declaration-room f a (roomy f) v l)
 
 pub ruleset laws = (rules, type-room, variable-room)

@@ -78,6 +78,11 @@ AppendsBuilt (Err unbuilt.None) room index store end t r index' store' = Appends
 AppendsBuilt (Err unbuilt.TooLarge) room index store end t r index' store' = AppendsState 2 index store end t r index' store'
 AppendsBuilt (Err (unbuilt.Wanted d)) room index store end t r index' store' = Unit {0}
 
+-- a value that was built ends within so many words
+abbrev pub EndsIn : Built → ℕ → Type 0
+EndsIn (Ok e) n = e ≤ n
+EndsIn (Err u) n = Unit {0}
+
 pub record Stores (made : Built) (room index store : List ℕ) (end t : ℕ) (r : Option ℕ) (index' store' : List ℕ) : Type 0 where
   pub appends : AppendsBuilt made room index store end t r index' store'
 
@@ -91,11 +96,18 @@ pub record Resolves (f : List ℕ) (t : ℕ) (index store : List ℕ) (end : ℕ
   pub old : (s w : ℕ) → get_or index s 0 ≡ suc w → get_or index' s 0 ≡ suc w
   pub fewer : zeros index' < zeros index
 
--- what the arguments that every function hands on have to be: the tables have a word of the index for each type
+-- what the arguments have to be where classes and index are one slice: it has a word of the index for each type
 pub record Given (f known : List ℕ) (room : ℕ) : Type 0 where
   pub accepted : Accepted f
   pub classed : Classes f known
   pub tables : index_at + count f types ≤ length known
+  pub roomy : room_words f ≤ room
+
+-- the same of the classes and the index where they are lent apart: how many words the index has
+pub record Prepared (f classes : List ℕ) (words room : ℕ) : Type 0 where
+  pub accepted : Accepted f
+  pub classed : Classes f classes
+  pub typed : count f types ≤ words
   pub roomy : room_words f ≤ room
 
 -- a memo is held

@@ -1,95 +1,80 @@
-// Types that are asked for: one, all declared types, or all.
+// Types that are asked for: one, all declared types, or all that a closure says.
 #![tactic(auto, using(crate::proofs::Asking::each))]
 
-ghost use Rattle.std.specs.Prelude.{◌≡◌, ◌<◌, eqb, length};
+ghost use Rattle.std.specs.Prelude.{◌≡◌, ◌<◌, length};
 ghost use Rattle.definition.specs.Layout as Layout;
-ghost use Rattle.definition.specs.Records.{declaration_kind};
-ghost use Rattle.build.specs.Built.{index_in};
-ghost use Rattle.driver.specs.Tables.{Front};
-ghost use Rattle.driver.specs.Driver.{Given, Held};
-ghost use Rattle.driver.specs.Asked.{Recalls, RecallsOne, AsksEach, Declares};
+ghost use Rattle.lines.specs.Lines.{Lends, ends};
+ghost use Rattle.driver.specs.Driver.{Prepared, Held};
+ghost use Rattle.driver.specs.Asked.{Recalls, AsksEach, Declares, is_declared};
 
 use crate::driver::resolve;
-use crate::tables::{clear_index, is_unknown};
 use definition::layout::TYPES;
+use definition::records::Declaration;
+use lines::append::Lines;
 use records::file::File;
 use records::source::Source;
 
-fn is_undeclared(file: &Source<'_>, t: u32) -> bool
-    ensures { result ≡ eqb (declaration_kind file.now t) 0 }
+#[tactic(auto, using(crate::proofs::Asking::declaring))]
+fn is_declared(file: &Source<'_>, t: u32) -> bool
+    ensures { result ≡ is_declared file.now t }
 {
-    file.word(TYPES, t, 4) == 0
+    !matches!(file.declaration(t), Declaration::Nothing)
 }
 
 // A type, unless it is known.
 #[tactic(auto, using(crate::proofs::Asking::asks))]
 pub fn ask_type(
     file: &File<'_>,
-    known: &mut [u32],
-    store: &mut [u32],
-    end: usize,
+    classes: &[u32],
+    lines: &mut Lines<'_>,
     t: u32,
     room: &mut [u32],
-) -> Option<usize>
-    requires { Given file.now.source known.old (length room.old) × Held file.now.source (index_in known.old) store.old end × (t < Layout.count file.now.source Layout.types) }
-    ensures { Front known.old known.new × Recalls file.now.source t (index_in known.old) store.old end result (index_in known.new) store.new }
+) -> Option<()>
+    requires { Prepared file.now.source classes.now (length lines.old.index.now) (length room.old) × Held file.now.source lines.old.index.now lines.old.store.now lines.old.end × (t < Layout.count file.now.source Layout.types) }
+    ensures same { Lends lines.old lines.new }
+    ensures recalls { Recalls file.now.source t lines.old.index.now lines.old.store.now lines.old.end (ends result lines.new.end) lines.new.index.now lines.new.store.now }
 {
-    if is_unknown(&known[..], t) {
-        return resolve(file, known, store, end, t, room);
+    if lines.is_unknown(t) {
+        return resolve(file, classes, lines, t, room);
     }
-    Some(end)
+    Some(())
 }
 
-// The same, but where `only` declared types are asked for, another one is left.
-#[tactic(auto, using(crate::proofs::Asking::asks))]
-fn ask_one(
+// All types that are asked for, in rising number.
+pub fn resolve_each<F: Fn(u32) -> bool>(
     file: &File<'_>,
-    known: &mut [u32],
-    store: &mut [u32],
-    end: usize,
-    t: u32,
+    classes: &[u32],
+    lines: &mut Lines<'_>,
     room: &mut [u32],
-    only: bool,
-) -> Option<usize>
-    requires { Given file.now.source known.old (length room.old) × Held file.now.source (index_in known.old) store.old end × (t < Layout.count file.now.source Layout.types) }
-    ensures { Front known.old known.new × RecallsOne file.now.source only t (index_in known.old) store.old end result (index_in known.new) store.new }
+    asks: F,
+) -> Option<()>
+    requires given { Prepared file.now.source classes.now (length lines.old.index.now) (length room.old) }
+    requires pre { F.IsAlwaysCallable asks }
+    ensures same { Lends lines.old lines.new }
+    ensures each { AsksEach file.now.source (F.post asks) (ends result lines.new.end) lines.new.index.now lines.new.store.now }
 {
-    if only && is_undeclared(&file.source, t) {
-        return Some(end);
-    }
-    ask_type(file, known, store, end, t, room)
-}
-
-// All types, or only all declared types, in rising number.
-pub fn resolve_each(
-    file: &File<'_>,
-    known: &mut [u32],
-    store: &mut [u32],
-    room: &mut [u32],
-    only: bool,
-) -> Option<usize>
-    requires { Given file.now.source known.old (length room.old) }
-    ensures { Front known.old known.new × AsksEach file.now.source only result (index_in known.new) store.new }
-{
-    clear_index(known);
+    lines.clear();
     let many = file.source.count(TYPES);
-    let mut end: usize = 0;
     for t in 0..many {
-        end = ask_one(file, known, store, end, t, room, only)?;
+        if !asks(t) {
+            continue;
+        }
+        ask_type(file, classes, lines, t, room)?;
     }
-    Some(end)
+    Some(())
 }
 
 // All declared types.
 #[tactic(auto, using(crate::proofs::Asking::of_each))]
 pub fn resolve_declared(
     file: &File<'_>,
-    known: &mut [u32],
-    store: &mut [u32],
+    classes: &[u32],
+    lines: &mut Lines<'_>,
     room: &mut [u32],
-) -> Option<usize>
-    requires { Given file.now.source known.old (length room.old) }
-    ensures { Front known.old known.new × Declares file.now.source result (index_in known.new) store.new }
+) -> Option<()>
+    requires { Prepared file.now.source classes.now (length lines.old.index.now) (length room.old) }
+    ensures same { Lends lines.old lines.new }
+    ensures declares { Declares file.now.source (ends result lines.new.end) lines.new.index.now lines.new.store.now }
 {
-    resolve_each(file, known, store, room, true)
+    resolve_each(file, classes, lines, room, |t| is_declared(&file.source, t))
 }

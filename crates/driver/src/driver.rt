@@ -1,72 +1,73 @@
 // A type resolved, and its line appended.
 #![tactic(auto, using(crate::proofs::Settling::appending))]
 
-ghost use Rattle.std.specs.Prelude.{◌≤◌, length};
-ghost use Rattle.build.specs.Built.{index_at, index_in};
-ghost use Rattle.driver.specs.Tables.{Front};
-ghost use Rattle.driver.specs.Driver.{Stores, Settles, Resolves, Given, Begun, Fresh};
+ghost use Rattle.std.specs.Prelude.{◌≡◌, ◌≤◌, ◌<◌, length};
+ghost use Rattle.definition.specs.Layout as Layout;
+ghost use Rattle.definition.specs.Starting as Defaults;
+ghost use Rattle.definition.specs.Answers.{room_words};
+ghost use Rattle.definition.specs.Tree.{flatten};
+ghost use Rattle.build.specs.Built.{Builds, Ready};
+ghost use Rattle.lines.specs.Lines.{Lends, ends};
+ghost use Rattle.driver.specs.Driver.{Stores, EndsIn, Settles, Resolves, Prepared, Begun, Fresh};
 
-use crate::tables::begin_type;
 use crate::work::{wanted, work_out};
-use build::built::{INDEX_AT, Unbuilt};
-use definition::layout::NODE_WORDS;
-use lines::append::{remember_large, remember_none, remember_tree};
+use build::built::Unbuilt;
+use build::known::Known;
+use lines::append::Lines;
+use lines::look::Absent;
 use records::file::File;
 
 // What was built at the front of the room becomes a type's line.
-fn append_line(
-    index: &mut [u32],
-    store: &mut [u32],
-    end: usize,
+fn remember(
+    lines: &mut Lines<'_>,
     t: u32,
-    room: &[u32],
     built: Result<usize, Unbuilt>,
-) -> Option<usize>
-    ensures { Stores built room.now index.old store.old end t result index.new store.new }
+    room: &[u32],
+) -> Option<()>
+    requires { EndsIn built (length room.now) }
+    ensures same { Lends lines.old lines.new }
+    ensures stores { Stores built room.now lines.old.index.now lines.old.store.now lines.old.end t (ends result lines.new.end) lines.new.index.now lines.new.store.now }
 {
     match built {
-        Ok(e) => remember_tree(index, store, end, t, room, 0, e / NODE_WORDS),
-        Err(Unbuilt::None) => remember_none(index, store, end, t),
-        Err(Unbuilt::TooLarge) => remember_large(index, store, end, t),
-        Err(Unbuilt::Wanted(_)) => None,
+        Ok(end) => lines.remember_tree(t, &room[..end]),
+        Err(unbuilt) => lines.remember_absent(t, Absent::from(unbuilt)),
     }
 }
 
-// The same, with the index in the tables.
-fn append(
-    known: &mut [u32],
-    store: &mut [u32],
-    end: usize,
+// The default of a type from what is remembered so far, or the first type that it wants.
+fn try_type(
+    file: &File<'_>,
+    classes: &[u32],
+    lines: &Lines<'_>,
     t: u32,
-    room: &[u32],
-    built: Result<usize, Unbuilt>,
-) -> Option<usize>
-    requires { index_at ≤ length known.old }
-    ensures { Front known.old known.new × Stores built room.now (index_in known.old) store.old end t result (index_in known.new) store.new }
+    room: &mut [u32],
+) -> Result<usize, Unbuilt>
+    requires { Ready file.now.source classes.now lines.now.index.now lines.now.store.now × (t < Layout.count file.now.source Layout.types) × (room_words file.now.source ≤ length room.old) }
+    ensures { Builds file.now.source lines.now.index.now lines.now.store.now flatten (Defaults.body file.now.source t) 0 room.old result room.new }
 {
-    append_line(&mut known[INDEX_AT..], store, end, t, room, built)
+    let known = Known::new(file, classes, &lines.index[..], &lines.store[..]);
+    work_out(&known, t, room)
 }
 
 // A type in progress is worked out. A type that it wants is resolved first, and the work starts again.
 fn settle(
     file: &File<'_>,
-    known: &mut [u32],
-    store: &mut [u32],
-    end: usize,
+    classes: &[u32],
+    lines: &mut Lines<'_>,
     t: u32,
     room: &mut [u32],
-) -> Option<usize>
-    requires { Given file.now.source known.old (length room.old) × Begun file.now.source (index_in known.old) store.old end t }
-    ensures { Front known.old known.new × Settles file.now.source t (index_in known.old) store.old end result (index_in known.new) store.new }
+) -> Option<()>
+    requires { Prepared file.now.source classes.now (length lines.old.index.now) (length room.old) × Begun file.now.source lines.old.index.now lines.old.store.now lines.old.end t }
+    ensures same { Lends lines.old lines.new }
+    ensures settles { Settles file.now.source t lines.old.index.now lines.old.store.now lines.old.end (ends result lines.new.end) lines.new.index.now lines.new.store.now }
 {
-    let mut last = end;
     loop {
-        let built = work_out(file, &known[..], &store[..], t, room);
+        let built = try_type(file, classes, lines, t, room);
         let Some(d) = wanted(built) else {
-            return append(known, store, last, t, &room[..], built);
+            return remember(lines, t, built, &room[..]);
         };
-        begin_type(known, d);
-        last = settle(file, known, store, last, d, room)?;
+        lines.begin(d);
+        settle(file, classes, lines, d, room)?;
     }
 }
 
@@ -74,15 +75,15 @@ fn settle(
 #[tactic(auto, using(crate::proofs::Settling::settling))]
 pub fn resolve(
     file: &File<'_>,
-    known: &mut [u32],
-    store: &mut [u32],
-    end: usize,
+    classes: &[u32],
+    lines: &mut Lines<'_>,
     t: u32,
     room: &mut [u32],
-) -> Option<usize>
-    requires { Given file.now.source known.old (length room.old) × Fresh file.now.source (index_in known.old) store.old end t }
-    ensures { Front known.old known.new × Resolves file.now.source t (index_in known.old) store.old end result (index_in known.new) store.new }
+) -> Option<()>
+    requires { Prepared file.now.source classes.now (length lines.old.index.now) (length room.old) × Fresh file.now.source lines.old.index.now lines.old.store.now lines.old.end t }
+    ensures same { Lends lines.old lines.new }
+    ensures resolves { Resolves file.now.source t lines.old.index.now lines.old.store.now lines.old.end (ends result lines.new.end) lines.new.index.now lines.new.store.now }
 {
-    begin_type(known, t);
-    settle(file, known, store, end, t, room)
+    lines.begin(t);
+    settle(file, classes, lines, t, room)
 }

@@ -6,40 +6,28 @@ ghost use Rattle.definition.specs.Starting as Defaults;
 ghost use Rattle.definition.specs.Layout as Layout;
 ghost use Rattle.definition.specs.Answers.{room_words};
 ghost use Rattle.definition.specs.Tree.{flatten};
-ghost use Rattle.build.specs.Built.{Builds, Ready};
+ghost use Rattle.build.specs.Built.{Builds};
 ghost use Rattle.driver.specs.Driver.{wanted_in};
 
 use build::built::Unbuilt;
+use build::known::Known;
 use declared::body::body;
 use initial::variable::declaration;
-use records::file::File;
 
 // The default of a type, as its own declaration says it.
-pub fn work_out(
-    file: &File<'_>,
-    known: &[u32],
-    store: &[u32],
-    t: u32,
-    room: &mut [u32],
-) -> Result<usize, Unbuilt>
-    requires { Ready file.now.source known.now store.now × (t < Layout.count file.now.source Layout.types) × (room_words file.now.source ≤ length room.old) }
-    ensures { Builds file.now.source known.now store.now flatten (Defaults.body file.now.source t) 0 room.old result room.new }
+pub fn work_out(known: &Known<'_>, t: u32, room: &mut [u32]) -> Result<usize, Unbuilt>
+    requires { (t < Layout.count known.now.file Layout.types) × (room_words known.now.file ≤ length room.old) }
+    ensures { Builds known.now.file known.now.index known.now.store flatten (Defaults.body known.now.file t) 0 room.old result room.new }
 {
-    body(file, known, store, t, room, 0)
+    body(known, t, room, 0)
 }
 
 // The default of a variable.
-pub fn variable(
-    file: &File<'_>,
-    known: &[u32],
-    store: &[u32],
-    v: u32,
-    room: &mut [u32],
-) -> Result<usize, Unbuilt>
-    requires { Ready file.now.source known.now store.now × (v < Layout.count file.now.source Layout.variables) × (room_words file.now.source ≤ length room.old) }
-    ensures { Builds file.now.source known.now store.now flatten (Defaults.declaration file.now.source v) 0 room.old result room.new }
+pub fn variable(known: &Known<'_>, v: u32, room: &mut [u32]) -> Result<usize, Unbuilt>
+    requires { (v < Layout.count known.now.file Layout.variables) × (room_words known.now.file ≤ length room.old) }
+    ensures { Builds known.now.file known.now.index known.now.store flatten (Defaults.declaration known.now.file v) 0 room.old result room.new }
 {
-    declaration(file, known, store, v, room, 0)
+    declaration(known, v, room, 0)
 }
 
 // The type that is wanted, where one is.

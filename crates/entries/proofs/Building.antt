@@ -25,7 +25,7 @@ use Rattle.definition.specs.Layout.{count, entries}
 use Rattle.definition.specs.Records.{entry_at, entry_name}
 use Rattle.definition.specs.Syntax.{Init, Inits, init_from, init_at, inits_at}
 use Rattle.definition.specs.Tree.{Tree, Trees, node, tcons, head, parts, many, nodes, nodes_in, flatten, structure_tree, array_tree, named, rest, most_nodes}
-use Rattle.definition.specs.Ask.{ok, none, large, Outcome, Ask, done, ◌>>=◌, give, nothing, formed, gathered}
+use Rattle.definition.specs.Ask.{result_of, ok, none, large, Outcome, Ask, done, ◌>>=◌, give, nothing, formed, gathered}
 use Rattle.definition.specs.Iec.{filled, assigned}
 use Rattle.definition.specs.Places.{leaf_place, field_place}
 use Rattle.definition.specs.Parts.{on_fields, element_defaults, array_by}
@@ -55,11 +55,18 @@ use Rattle.gather.specs.declared.copies.Target.{Target}
 use Rattle.gather.specs.Answers.{Listing, Builds}
 use Rattle.build.specs.Built.{Built, Memory, Ready}
 use Rattle.gather.specs.Room.{RoomThere, shapes_deep, rooms, Structure, Current, whole}
-use Rattle.gather.specs.Leaves.{simple_of, PutsSimple}
+use Rattle.gather.specs.Leaves.{simple_of}
+use Rattle.gather.proofs.Single.{small-simple, leaf-built, push-fails, tree-as}
+use Rattle.gather.proofs.Gathering.{never-ok}
+use Rattle.gather.proofs.Members.{head_of, structure-node}
+use Rattle.build.specs.Leaves.{PutsLeaf}
+use Rattle.definition.specs.declared.records.Constant.{Constant}
+use Rattle.definition.specs.Scalar.{as_tree}
 use Rattle.gather.specs.Elements.{ElementDefaults}
 use Rattle.gather.specs.Copies.{Taken, Takes, CopiesStructure, FillsRest, Heads, SetThere, Sets, Targets, Finds, PutsMember}
 use Rattle.entries.specs.Entries.{run_depth, RunThere, ValuesThere, FieldsThere, ValueThere, ExpandsAll, BuildsArray, values_of, FillsArray, FillsValues, Applies, member_step, SetsMember, BuildsMember, BuildsStructure}
-use Rattle.gather.proofs.Onward.{take_less, lists-as, builds-same, lists-same, peek-stops, some-of, none-of}
+use Rattle.gather.proofs.Onward.{take_less, lists-as, builds-same, lists-same, peek-stops}
+use Rattle.build.proofs.Peeks.{some-of, none-of}
 use Rattle.gather.proofs.Copying.{rest-zero}
 use Rattle.entries.proofs.Entering.{lower, current-less, structure-init, structure-depth, array-init, array-depth}
 use Rattle.entries.proofs.Nesting.{fields-some, fields-none}
@@ -166,9 +173,6 @@ module _ {old : List ℕ} {at : ℕ} {ws : List ℕ} {x : Option ℕ} {mid : Lis
       record { fits = omega (arith, z.1, borrow.Author.Tests.leb-true (at + 6) (length old) z.0) }
 
 -- ---- `fill`
-never-ok : (M : Memo) (ts : Trees) → peek M nothing ≡ got (ok ts) → ⊥
-never-ok M ts e = let q : got none ≡ got (ok ts) = sym (peek-nothing M) ∙ e in let z : ◌≡◌ {A = ℕ} 0 1 = cc in omega arith
-
 -- only an array has element defaults, and its element has a shape
 elements-deep : (M : Memo) (f : List ℕ) → Accepted f → (p : Place) → PlaceIn f p → (ts : Trees) → peek M (element_defaults f (default_of f) p) ≡ got (ok ts) → 1 ≤ shapes_deep f
 unfolding element_defaults shapes_deep
@@ -184,7 +188,7 @@ module _ (f known store : List ℕ) (p : Place) (first many : ℕ) (old : List �
   fill_fails {u} d q =
       rw q (record { says = λ M k room. peek-stops M (element_defaults f (default_of f) p) (λ ds. values_of f p first many ds) u (d.says M k (omega arith)).lists })
 
-  module _ {d : Listing} (u : ElementDefaults f known store p old 0 d mid) (gv : Ready f known store) (pin : PlaceIn f p) {front : Listed} (q : d ≡ Ok front) (g : length mid ≡ length old) {r : Listing} {new : List ℕ}
+  module _ {d : Listing} (u : ElementDefaults f known store p old 0 d mid) (gv : Accepted f) (pin : PlaceIn f p) {front : Listed} (q : d ≡ Ok front) (g : length mid ≡ length old) {r : Listing} {new : List ℕ}
       (w : FillsValues f known store p first many front.made mid front.end r new) where
     pub fill-filled : FillsArray f known store p first many old r new
     fill-filled =
@@ -193,7 +197,7 @@ module _ (f known store : List ℕ) (p : Place) (first many : ℕ) (old : List �
               let t = lists-as M (element_defaults f (default_of f) p) whole 0 mid q (u.says M k (omega arith)).lists in
               lists-same M (values_of f p first many t.trees) (element_defaults f (default_of f) p >>= λ ds. values_of f p first many ds) whole 0 r new
               (peek-ok M (element_defaults f (default_of f) p) (λ ds. values_of f p first many ds) t.trees t.is)
-              (w.says M k t.trees t.stands t.small (omega (arith, t.counts)) (elements-deep M f gv.accepted p pin t.trees t.is) (omega (arith, t.ends, t.small.room)));
+              (w.says M k t.trees t.stands t.small (omega (arith, t.counts)) (elements-deep M f gv p pin t.trees t.is) (omega (arith, t.ends, t.small.room)));
         }
 
 -- ---- `fill_values`
@@ -212,28 +216,29 @@ module _ (f known store : List ℕ) (p : Place) (first many places : ℕ) (old :
       }
 
 -- ---- `apply_members`
-pub record Applying (M : Memo) (f : List ℕ) (first many : ℕ) (p : Place) (fields : Trees) (old : List ℕ) (at i upto : ℕ) (s : List ℕ) : Type 0 where
+pub record Applying (M : Memo) (f : List ℕ) (first many : ℕ) (p : Place) (fields : Trees) (old : List ℕ) (at e upto : ℕ) (s : List ℕ) : Type 0 where
   pub now : Trees
-  pub goes : peek M (Defs.members f (inits_at f first many) p fields) ≡ peek M (Defs.members f (inits_at f (first + i) (many - i)) p now)
+  pub goes : peek M (Defs.members f (inits_at f first many) p fields) ≡ peek M (Defs.members f (inits_at f e (first + many - e)) p now)
   pub stands : Stand s at (flatten (structure_tree now)) upto
   pub small : Gathered 0 now
   pub kept : take at s ≡ take at old
 
-pub record ApplyInv (f known store : List ℕ) (first many : ℕ) (p : Place) (old : List ℕ) (at end i upto : ℕ) (s : List ℕ) : Type 0 where
+pub record ApplyInv (f known store : List ℕ) (first many : ℕ) (p : Place) (old : List ℕ) (at end e upto : ℕ) (s : List ℕ) : Type 0 where
   pub long : length s ≡ length old
-  pub some : i ≤ many
+  pub runs : first ≤ e
+  pub some : e ≤ first + many
   pub says : (M : Memo) → Memory f known store M → (fields : Trees) → Structure old at end (rooms f (run_depth f first many)) fields
-      → Applying M f first many p fields old at i upto s
+      → Applying M f first many p fields old at e upto s
 
-pub apply-first : (f known store : List ℕ) (first many : ℕ) (p : Place) (old : List ℕ) (at end : ℕ) → ApplyInv f known store first many p old at end 0 end old
+pub apply-first : (f known store : List ℕ) (first many : ℕ) (p : Place) (old : List ℕ) (at end : ℕ) → ApplyInv f known store first many p old at end first end old
 apply-first f known store first many p old at end =
     record {
       long = refl;
+      runs = omega arith;
       some = omega arith;
       says = λ M k fields y.
-          let a : first + 0 ≡ first = omega arith in
-          let b : many - 0 ≡ many = omega arith in
-          record { now = fields; goes = rw (a, b) refl; stands = y.stands; small = y.whole; kept = refl };
+          let b : first + many - first ≡ many = omega arith in
+          record { now = fields; goes = rw b refl; stands = y.stands; small = y.whole; kept = refl };
     }
 
 members-is : (M : Memo) (f : List ℕ) (first k : ℕ) (p : Place) (fields : Trees)
@@ -248,18 +253,18 @@ members-none M f first p fields = rw (inits-none f first) (peek-give M (structur
 structure-long : (s : List ℕ) (at : ℕ) (ts : Trees) (e : ℕ) → Stand s at (flatten (structure_tree ts)) e → e ≡ at + 6 * nodes (structure_tree ts)
 structure-long s at ts e x = sym (Rattle.tree.proofs.Fields.stands-long s at (structure_tree ts) e x)
 
-module _ {f known store : List ℕ} {first many : ℕ} {p : Place} {old : List ℕ} {at end i upto : ℕ} {s : List ℕ} (y : ApplyInv f known store first many p old at end i upto s) where
-  pub apply-all : i ≡ many → Applies f known store first many p old at end (Ok upto) s
+module _ {f known store : List ℕ} {first many : ℕ} {p : Place} {old : List ℕ} {at end e upto : ℕ} {s : List ℕ} (y : ApplyInv f known store first many p old at end e upto s) where
+  pub apply-all : e ≡ first + many → Applies f known store first many p old at end (Ok upto) s
   apply-all h =
       record {
         says = λ M k fields z.
             let v = y.says M k fields z in
-            let e : many - i ≡ 0 = omega arith in
+            let z : first + many - e ≡ 0 = omega arith in
             record {
               kept = v.kept;
               builds = record {
                 tree = structure_tree v.now;
-                is = v.goes ∙ ap (λ n. peek M (Defs.members f (inits_at f (first + i) n) p v.now)) e ∙ members-none M f (first + i) p v.now;
+                is = v.goes ∙ ap (λ n. peek M (Defs.members f (inits_at f e n) p v.now)) z ∙ members-none M f e p v.now;
                 ends = structure-long s at v.now upto v.stands;
                 stands = v.stands;
                 small = small-structure v.now v.small;
@@ -267,24 +272,25 @@ module _ {f known store : List ℕ} {first many : ℕ} {p : Place} {old : List �
             };
       }
 
-  module _ (gv : Ready f known store) (hr : first + many ≤ count f entries) (h : i < many) where
+  module _ (gv : Accepted f) (hr : first + many ≤ count f entries) (h : e < first + many) where
     apply-ready : (M : Memo) (k : Memory f known store M) (fields : Trees) (z : Structure old at end (rooms f (run_depth f first many)) fields)
-        → Structure s at upto (12288 + rooms f (entry_depth f (first + i) - 1)) (y.says M k fields z).now
+        → Structure s at upto (12288 + rooms f (entry_depth f e - 1)) (y.says M k fields z).now
     apply-ready M k fields z =
         let v = y.says M k fields z in
-        let d = deepest-at (entry_depth f) first many (first + i) (omega arith) (omega arith) in
-        record { stands = v.stands; whole = v.small; room = omega (arith, z.room, y.long, entry-depth-least f gv.accepted (first + i) (omega arith)) }
+        let d = deepest-at (entry_depth f) first many e y.runs h in
+        record { stands = v.stands; whole = v.small; room = omega (arith, z.room, y.long, entry-depth-least f gv e (omega arith)) }
 
     apply-step : (M : Memo) (now : Trees)
-        → peek M (Defs.members f (inits_at f (first + i) (many - i)) p now)
-        ≡ peek M (member_step f (first + i) p now (λ changed. Defs.members f (inits_at f (suc (first + i)) (many - (i + 1))) p changed))
+        → peek M (Defs.members f (inits_at f e (first + many - e)) p now)
+        ≡ peek M (member_step f e p now (λ changed. Defs.members f (inits_at f (e + 1) (first + many - (e + 1))) p changed))
     apply-step M now =
-        let e : many - i ≡ suc (many - (i + 1)) = omega arith in
-        ap (λ n. peek M (Defs.members f (inits_at f (first + i) n) p now)) e ∙ members-is M f (first + i) (many - (i + 1)) p now
+        let c : e + 1 ≡ suc e = omega arith in
+        let z : first + many - e ≡ suc (first + many - suc e) = omega arith in
+        rw c (ap (λ n. peek M (Defs.members f (inits_at f e n) p now)) z ∙ members-is M f e (first + many - suc e) p now)
 
     module _ {new : List ℕ} where
       -- what `?` hands on
-      pub apply-fails : {u : Unbuilt} → SetsMember f known store (first + i) p s at upto (Err u) new → {r : Built} → r ≡ Err u → Applies f known store first many p old at end r new
+      pub apply-fails : {u : Unbuilt} → SetsMember f known store e p s at upto (Err u) new → {r : Built} → r ≡ Err u → Applies f known store first many p old at end r new
       apply-fails w q =
           rw q (record {
             says = λ M k fields z.
@@ -293,19 +299,19 @@ module _ {f known store : List ℕ} {first many : ℕ} {p : Place} {old : List �
                 record { kept = x.kept ∙ v.kept; builds = v.goes ∙ apply-step M v.now ∙ x.sets _ };
           })
 
-      pub apply-more : {r : Built} → SetsMember f known store (first + i) p s at upto r new → {e : ℕ} → r ≡ Ok e → length new ≡ length s → ApplyInv f known store first many p old at end (i + 1) e new
-      apply-more w {e} j g =
+      pub apply-more : {r : Built} → SetsMember f known store e p s at upto r new → {to : ℕ} → r ≡ Ok to → length new ≡ length s → ApplyInv f known store first many p old at end (e + 1) to new
+      apply-more w {to} j g =
           record {
             long = g ∙ y.long;
+            runs = omega (arith, y.runs);
             some = omega arith;
             says = λ M k fields z.
                 let v = y.says M k fields z in
                 let x = w.says M k v.now (apply-ready M k fields z) in
-                let t : SetThere M (member_step f (first + i) p v.now) at e new = rw j at x.sets in
-                let c : first + (i + 1) ≡ suc (first + i) = omega arith in
+                let t : SetThere M (member_step f e p v.now) at to new = rw j at x.sets in
                 record {
                   now = t.changed;
-                  goes = rw c (v.goes ∙ apply-step M v.now ∙ t.goes (λ changed. Defs.members f (inits_at f (suc (first + i)) (many - (i + 1))) p changed));
+                  goes = v.goes ∙ apply-step M v.now ∙ t.goes (λ changed. Defs.members f (inits_at f (e + 1) (first + many - (e + 1))) p changed);
                   stands = t.stands;
                   small = t.whole;
                   kept = x.kept ∙ v.kept;
@@ -316,13 +322,6 @@ module _ {f known store : List ℕ} {first many : ℕ} {p : Place} {old : List �
 sets_same : (M : Memo) (a b : (Trees → Ask Outcome) → Ask Outcome) (at : ℕ) (r : Built) (s : List ℕ) → ((k : Trees → Ask Outcome) → peek M (b k) ≡ peek M (a k)) → Sets M a at r s → Sets M b at r s
 sets_same M a b at (Ok e) s q x = record { changed = x.changed; goes = λ k. q k ∙ x.goes k; stands = x.stands; whole = x.whole }
 sets_same M a b at (Err u) s q x = λ k. q k ∙ x k
-
-abbrev head_of : Trees → Rattle.definition.specs.Tree.Node
-head_of ts = record { name = 0; kind = 14; sign = 0; low = many ts; high = 0; width = 0 }
-
-structure-node : (ts : Trees) → structure_tree ts ≡ node (head_of ts) ts
-unfolding structure_tree Rattle.definition.specs.Tree.headed
-structure-node ts = refl
 
 structure-parts : (ts : Trees) → parts (structure_tree ts) ≡ ts
 unfolding structure_tree Rattle.definition.specs.Tree.headed parts
@@ -459,28 +458,29 @@ member-array-is : (f : List ℕ) (first many : ℕ) (p : Place) (t : Tree) → D
 unfolding Defaults.expand Defaults.array_of
 member-array-is f first many p t = refl
 
-module _ {f known store : List ℕ} (g : Ready f known store) (e : ℕ) (h : e < count f entries) {x : Entry} (is : x ≡ entry_at f e)
+module _ {f known store : List ℕ} (g : Accepted f) (e : ℕ) (h : e < count f entries) {x : Entry} (is : x ≡ entry_at f e)
     {p : Place} (begin upto : ℕ) {old : List ℕ} {at : ℕ} {r : Built} {new : List ℕ} where
   pub member-array : {first many : ℕ} → x ≡ entry.Array first many → BuildsArray f known store p first many old at r new → BuildsMember f known store e p begin upto old at r new
   member-array {first} {many} q w =
       record {
         says = λ M k t y.
-            rw (array-init f g.accepted e h is q, member-array-is f first many p (named 0 t)) (w.says M k (omega (arith, y.room, array-depth f g.accepted e h is q)));
+            rw (array-init f g e h is q, member-array-is f first many p (named 0 t)) (w.says M k (omega (arith, y.room, array-depth f g e h is q)));
       }
 
   pub member-structure : {first many : ℕ} → x ≡ entry.Structure first many → BuildsStructure f known store first many p begin upto old at r new → BuildsMember f known store e p begin upto old at r new
   member-structure {first} {many} q w =
-      record { says = λ M k t y. rw (structure-init f g.accepted e h is q) (w.says M k t (current-less y (rooms f (run_depth f first many)) (omega (arith, structure-depth f g.accepted e h is q)))) }
+      record { says = λ M k t y. rw (structure-init f g e h is q) (w.says M k t (current-less y (rooms f (run_depth f first many)) (omega (arith, structure-depth f g e h is q)))) }
 
-  pub member-simple : OneOf plain (tag_of entry-tags.the_type x) → PutsSimple f e p old at r new → BuildsMember f known store e p begin upto old at r new
-  member-simple o w =
+  pub member-simple : OneOf plain (tag_of entry-tags.the_type x) → {v : Option Constant} → as_tree (result_of v) ≡ simple_of f p.shape (entry_at f e) → PutsLeaf v at old r new → BuildsMember f known store e p begin upto old at r new
+  member-simple o q x =
+      let w = leaf-built x in
       record {
         says = λ M k t y.
             record {
               kept = w.kept;
               builds =
                   builds-same M (done (simple_of f p.shape (entry_at f e))) (Defs.member f (init_at f e) p (named 0 t)) at r new
-                  (ap (λ i. peek M (Defs.member f i p (named 0 t))) (init-is f g.accepted e h) ∙ member_is M f p (named 0 t) (entry_at f e) (rw is at o)) (w.says M (omega (arith, y.room)));
+                  (ap (λ i. peek M (Defs.member f i p (named 0 t))) (init-is f g e h) ∙ member_is M f p (named 0 t) (entry_at f e) (rw is at o)) (w.says M (simple_of f p.shape (entry_at f e)) q (small-simple f p.shape (entry_at f e)) (omega (arith, y.room)));
             };
       }
 
@@ -531,9 +531,9 @@ module _ (f : List ℕ) (first many : ℕ) where
   pub elements-there : {s : List ℕ} → RoomThere s 0 (12282 + 24576 * (run_depth f first many + shapes_deep f)) → RoomThere s 0 (12282 + 24576 * shapes_deep f)
   elements-there y = record { room = omega (arith, y.room) }
 
-  pub values-there : {known store : List ℕ} {p : Place} {old : List ℕ} {d : Listing} {mid : List ℕ} → ElementDefaults f known store p old 0 d mid → {front : Listed} → d ≡ Ok front
-      → length mid ≡ length old → Ready f known store → RoomThere old 0 (12282 + 24576 * (run_depth f first many + shapes_deep f)) → ValuesThere f first many front.made mid front.end
-  values-there {known} {store} {p} {old} {d} {mid} u q g gv y =
+  pub values-there : {classes known store : List ℕ} {p : Place} {old : List ℕ} {d : Listing} {mid : List ℕ} → ElementDefaults f known store p old 0 d mid → {front : Listed} → d ≡ Ok front
+      → length mid ≡ length old → Ready f classes known store → RoomThere old 0 (12282 + 24576 * (run_depth f first many + shapes_deep f)) → ValuesThere f first many front.made mid front.end
+  values-there {classes} {known} {store} {p} {old} {d} {mid} u q g gv y =
       let t = lists-as gv.memo (element_defaults f (default_of f) p) whole 0 mid q (u.says gv.memo gv.memory (omega (arith, y.room))).lists in
       record { trees = t.trees; stands = t.stands; small = t.small; counts = omega (arith, t.counts); room = omega (arith, y.room, t.ends, t.small.room) }
 
@@ -545,13 +545,13 @@ module _ (f : List ℕ) (first many : ℕ) where
         room = omega (arith, y.room);
       }
 
-pub apply-there : {f known store : List ℕ} {first many : ℕ} {p : Place} {old : List ℕ} {at end i upto : ℕ} {s : List ℕ} → ApplyInv f known store first many p old at end i upto s
-    → Ready f known store → first + many ≤ count f entries → i < many → FieldsThere old at end (rooms f (run_depth f first many))
-    → FieldsThere s at upto (12288 + rooms f (entry_depth f (first + i) - 1))
-apply-there {f} {known} {store} {first} {many} {p} {old} {at} {end} {i} {upto} {s} y gv hr h z =
+pub apply-there : {f classes known store : List ℕ} {first many : ℕ} {p : Place} {old : List ℕ} {at end e upto : ℕ} {s : List ℕ} → ApplyInv f known store first many p old at end e upto s
+    → Ready f classes known store → first + many ≤ count f entries → e < first + many → FieldsThere old at end (rooms f (run_depth f first many))
+    → FieldsThere s at upto (12288 + rooms f (entry_depth f e - 1))
+apply-there {f} {classes} {known} {store} {first} {many} {p} {old} {at} {end} {e} {upto} {s} y gv hr h z =
     let v = y.says gv.memo gv.memory z.fields z.there in
-    let d = deepest-at (entry_depth f) first many (first + i) (omega arith) (omega arith) in
-    record { fields = v.now; there = record { stands = v.stands; whole = v.small; room = omega (arith, z.there.room, y.long, entry-depth-least f gv.accepted (first + i) (omega arith)) } }
+    let d = deepest-at (entry_depth f) first many e y.runs h in
+    record { fields = v.now; there = record { stands = v.stands; whole = v.small; room = omega (arith, z.there.room, y.long, entry-depth-least f gv.accepted e (omega arith)) } }
 
 pub target-there : (f : List ℕ) (p : Place) (e : ℕ) {old : List ℕ} {at end : ℕ} {t : Option Target} → Finds f p e old at t → {field : Target} → t ≡ Some field → {need : ℕ}
     → FieldsThere old at end (12288 + need) → ValueThere old field.begin field.end end need
@@ -571,4 +571,4 @@ pub ruleset building = (rules, opened, some-of, array-short, array-built, fill_f
 
 pub ruleset asked = (lower, fill-there, elements-there, values-there, run-there, apply-there, target-there, over-there, target-in, some-of, rest-begins, rest-scaled)
 
-pub ruleset answering = (asked, fill_fails, values-filled, member-array, member-structure, member-simple, set-done)
+pub ruleset answering = (asked, apply-fails, fill-filled, fill_fails, values-filled, member-array, member-structure, member-simple, set-done)

@@ -20,7 +20,7 @@ use Rattle.definition.specs.Layout.{count, entries}
 use Rattle.definition.specs.Records.{entry_at}
 use Rattle.definition.specs.Syntax.{Init, init_from, init_at, inits_at}
 use Rattle.definition.specs.Tree.{Tree, Trees, many, one, rest}
-use Rattle.definition.specs.Ask.{none, done, ◌>>=◌}
+use Rattle.definition.specs.Ask.{result_of, none, done, ◌>>=◌}
 use Rattle.definition.specs.Places.{leaf_place}
 use Rattle.definition.specs.Parts.{added, copied}
 use Rattle.definition.specs.Defaults as Defaults
@@ -31,17 +31,20 @@ use Rattle.definition.specs.Depth.{deepest, entry_depth, entry_depth_from}
 use Rattle.laws.specs.Accepted.{Accepted}
 use Rattle.laws.specs.Decoded.{init-is, run-inits}
 use Rattle.laws.specs.Depths.{deepest-at, entry-depth-is, few-entries}
-use Rattle.laws.specs.Links.{Link}
+use Rattle.laws.specs.Links.{Link, link-to}
 use Rattle.laws.specs.Pointed.{EntryPointed, entry-pointed}
 use Rattle.laws.specs.Steps.{peek-done, peek-nothing, peek-none}
 use Rattle.places.specs.Inside.{PlaceIn, leaf-in}
-use Rattle.std.specs.Prelude.{Err}
+use Rattle.std.specs.Prelude.{Err, Option}
 use Rattle.build.specs.declared.built.Unbuilt.TheVariants as unbuilt
 use Rattle.gather.specs.Answers.{Listing}
 use Rattle.gather.specs.declared.answers.Filling.{Filling}
-use Rattle.build.specs.Built.{Ready}
 use Rattle.gather.specs.Room.{RoomThere, rooms, Fillable, Current}
-use Rattle.gather.specs.Leaves.{simple_of, pushed, PushesSimple}
+use Rattle.gather.specs.Leaves.{simple_of, pushed, Pushes}
+use Rattle.gather.proofs.Single.{small-simple, place-shape}
+use Rattle.build.proofs.Peeks.{link-some, link-none}
+use Rattle.definition.specs.declared.records.Constant.{Constant}
+use Rattle.definition.specs.Scalar.{as_tree}
 use Rattle.gather.specs.Copies.{Remains, PushesCopies, PushesDefaults}
 use Rattle.entries.specs.Entries.{run_depth, EntryLink, DefaultsThere, ValueThere, Expands, Repeats, RepeatsEntry, ExpandsStructure}
 use Rattle.gather.proofs.Onward.{lists-same}
@@ -98,51 +101,51 @@ module _ (f : List ℕ) (a : Accepted f) (e : ℕ) (h : e < count f entries) {x 
         go (suc i) p = omega (arith, p.0)
 
 -- ---- what falls, and what the calls require
-module _ {f known store : List ℕ} (g : Ready f known store) where
+module _ {f : List ℕ} (g : Accepted f) where
   module _ (e : ℕ) (h : e < count f entries) {x : Entry} (is : x ≡ entry_at f e) where
     pub structure-falls : {first many : ℕ} → x ≡ entry.Structure first many → {t : ℕ} → 16 * entry_depth f e + 1 ≡ t → 16 * deepest (entry_depth f) first many + 15 < t
-    structure-falls q m = omega (arith, structure-depth f g.accepted e h is q)
+    structure-falls q m = omega (arith, structure-depth f g e h is q)
 
     pub structure-run : {first many : ℕ} → x ≡ entry.Structure first many → first + many ≤ count f entries
-    structure-run q = structure-inside f g.accepted e h is q
+    structure-run q = structure-inside f g e h is q
 
     pub repeat-falls : {many inner : ℕ} → x ≡ entry.Repeat many inner → {t : ℕ} → 16 * entry_depth f e + 1 ≡ t → 16 * on_link inner 0 (entry_depth f) + 15 < t
-    repeat-falls q m = omega (arith, repeat-depth f g.accepted e h is q)
+    repeat-falls q m = omega (arith, repeat-depth f g e h is q)
 
     pub repeat-link : {many inner : ℕ} → x ≡ entry.Repeat many inner → EntryLink f inner
-    repeat-link q = record { inside = repeat-inside f g.accepted e h is q }
+    repeat-link q = record { inside = repeat-inside f g e h is q }
 
     pub member-falls : {first many : ℕ} → x ≡ entry.Structure first many → {t : ℕ} → 16 * entry_depth f e + 12 ≡ t → 16 * deepest (entry_depth f) first many + 15 < t
-    member-falls q m = omega (arith, structure-depth f g.accepted e h is q)
+    member-falls q m = omega (arith, structure-depth f g e h is q)
 
     pub array-falls : {first many : ℕ} → x ≡ entry.Array first many → {t : ℕ} → 16 * entry_depth f e + 12 ≡ t → 16 * deepest (entry_depth f) first many + 10 < t
-    array-falls q m = omega (arith, array-depth f g.accepted e h is q)
+    array-falls q m = omega (arith, array-depth f g e h is q)
 
     pub array-run : {first many : ℕ} → x ≡ entry.Array first many → first + many ≤ count f entries
-    array-run q = array-inside f g.accepted e h is q
+    array-run q = array-inside f g e h is q
 
-  pub run_fits : (first many i : ℕ) → first + many ≤ count f entries → i < many → Fits w32 (first + i)
-  run_fits first many i h l = record { fits = omega (arith, few-entries f g.accepted) }
+  pub run_fits : (first many : ℕ) → first + many ≤ count f entries → Fits w32 (first + many)
+  run_fits first many h = record { fits = omega (arith, few-entries f g) }
 
-  pub run-next : (first many i : ℕ) → first + many ≤ count f entries → i < many → first + i < count f entries
-  run-next first many i h l = omega arith
+-- the entry behind a link
+module _ (f : List ℕ) {l e : ℕ} (q : l ≡ suc e) where
+  pub link-entry : EntryLink f l → e < count f entries
+  link-entry p = link-to (λ e. e < count f entries) l e q p.inside
 
-pub link-entry : (f : List ℕ) (l : ℕ) → (l ≡ 0 → ⊥) → EntryLink f l → l - 1 < count f entries
-link-entry f zero n p = absurd (n refl)
-link-entry f (suc l) n p = let e : suc l - 1 ≡ l = omega arith in rw e p.inside
+  pub link-falls : {t : ℕ} → 16 * on_link l 0 (entry_depth f) + 15 ≡ t → 16 * entry_depth f e + 2 < t
+  link-falls {t} m = let h : 16 * entry_depth f e + 15 ≡ t = rw q at m in omega (arith, h)
 
-pub link-falls : (f : List ℕ) (l : ℕ) → (l ≡ 0 → ⊥) → {t : ℕ} → 16 * on_link l 0 (entry_depth f) + 15 ≡ t → 16 * entry_depth f (l - 1) + 2 < t
-link-falls f zero n m = absurd (n refl)
-link-falls f (suc l) n m = let e : suc l - 1 ≡ l = omega arith in rw e (omega arith)
+  pub link-there : {s : List ℕ} {v : Filling} {at : ℕ} → DefaultsThere s v at (rooms f (on_link l 0 (entry_depth f))) → DefaultsThere s v at (rooms f (entry_depth f e))
+  link-there y = rw q at y
 
-pub run-falls : (f : List ℕ) (first many i : ℕ) → i < many → {t : ℕ} → 16 * deepest (entry_depth f) first many + 7 ≡ t → 16 * entry_depth f (first + i) + 1 < t
-run-falls f first many i h m = omega (arith, deepest-at (entry_depth f) first many (first + i) (omega arith) (omega arith))
+pub run-falls : (f : List ℕ) (first many e : ℕ) → first ≤ e → e < first + many → {t : ℕ} → 16 * deepest (entry_depth f) first many + 7 ≡ t → 16 * entry_depth f e + 1 < t
+run-falls f first many e i h m = omega (arith, deepest-at (entry_depth f) first many e i h)
 
-pub members-fall : (f : List ℕ) (first many i : ℕ) → i < many → {t : ℕ} → 16 * deepest (entry_depth f) first many + 14 ≡ t → 16 * entry_depth f (first + i) + 13 < t
-members-fall f first many i h m = omega (arith, deepest-at (entry_depth f) first many (first + i) (omega arith) (omega arith))
+pub members-fall : (f : List ℕ) (first many e : ℕ) → first ≤ e → e < first + many → {t : ℕ} → 16 * deepest (entry_depth f) first many + 14 ≡ t → 16 * entry_depth f e + 13 < t
+members-fall f first many e i h m = omega (arith, deepest-at (entry_depth f) first many e i h)
 
-pub leaf-inside : {f known store : List ℕ} → Ready f known store → {p : Place} → PlaceIn f p → {leaf : Place} → leaf ≡ leaf_place f p → PlaceIn f leaf
-leaf-inside {f} g {p} i e = rw e (leaf-in f g.accepted p i)
+pub leaf-inside : {f : List ℕ} → Accepted f → {p : Place} → PlaceIn f p → {leaf : Place} → leaf ≡ leaf_place f p → PlaceIn f leaf
+leaf-inside {f} g {p} i e = rw e (leaf-in f g p i)
 
 -- ---- less room
 pub fillable-less : {s : List ℕ} {l : Filling} {at n : ℕ} {ds : Trees} → Fillable s l at n ds → (m : ℕ) → m ≤ n → Fillable s l at m ds
@@ -171,27 +174,27 @@ simple-is M f below leaf l ds n (entry.Repeat many inner) o b = absurd (miss sim
 simple-is M f below leaf l ds n entry.Unknown o b =
     peek-nothing M ∙ sym (peek-none M (done none) (λ t. added l.places l.made l.size (one t)) (peek-done M none))
 
-module _ {f known store : List ℕ} (g : Ready f known store) (e : ℕ) (h : e < count f entries) {x : Entry} (is : x ≡ entry_at f e)
+module _ {f known store : List ℕ} (g : Accepted f) (e : ℕ) (h : e < count f entries) {x : Entry} (is : x ≡ entry_at f e)
     {leaf : Place} {l : Filling} {old : List ℕ} {at : ℕ} {r : Listing} {new : List ℕ} where
   pub expand-structure : {first many : ℕ} → x ≡ entry.Structure first many → ExpandsStructure f known store first many leaf l old at r new → Expands f known store e leaf l old at r new
   expand-structure {first} {many} q w =
-      record { says = λ M k ds y. rw (structure-init f g.accepted e h is q) (w.says M k ds (fillable-less y (rooms f (run_depth f first many)) (omega (arith, structure-depth f g.accepted e h is q)))) }
+      record { says = λ M k ds y. rw (structure-init f g e h is q) (w.says M k ds (fillable-less y (rooms f (run_depth f first many)) (omega (arith, structure-depth f g e h is q)))) }
 
   pub expand-repeat : {many inner : ℕ} → x ≡ entry.Repeat many inner → Repeats f known store many inner leaf l old at r new → Expands f known store e leaf l old at r new
   expand-repeat {many} {inner} q w =
-      record { says = λ M k ds y. rw (repeat-init f g.accepted e h is q) (w.says M k ds (fillable-less y (rooms f (on_link inner 0 (entry_depth f))) (omega (arith, repeat-depth f g.accepted e h is q)))) }
+      record { says = λ M k ds y. rw (repeat-init f g e h is q) (w.says M k ds (fillable-less y (rooms f (on_link inner 0 (entry_depth f))) (omega (arith, repeat-depth f g e h is q)))) }
 
-  pub expand-simple : OneOf simples (tag_of entry-tags.the_type x) → PushesSimple f e leaf l old at r new → Expands f known store e leaf l old at r new
-  expand-simple o w =
+  pub expand-simple : OneOf simples (tag_of entry-tags.the_type x) → {v : Option Constant} → as_tree (result_of v) ≡ simple_of f leaf.shape (entry_at f e) → Pushes v l old at r new → Expands f known store e leaf l old at r new
+  expand-simple o q w =
       record {
         says = λ M k ds y.
             record {
               kept = w.kept;
               lists =
                   lists-same M (pushed l (done (simple_of f leaf.shape (entry_at f e)))) (expand f (init_at f e) leaf ds l.made l.size) l at r new
-                  (ap (λ i. peek M (expand f i leaf ds l.made l.size)) (init-is f g.accepted e h)
+                  (ap (λ i. peek M (expand f i leaf ds l.made l.size)) (init-is f g e h)
                   ∙ simple-is M f (init_at f) leaf l ds y.defaults.count (entry_at f e) (rw is at o) (λ y. refl))
-                  (w.says M (omega (arith, y.room)));
+                  (w.says M (simple_of f leaf.shape (entry_at f e)) q (small-simple f leaf.shape (entry_at f e)) (omega (arith, y.room)));
             };
       }
 
@@ -201,12 +204,8 @@ module _ {f known store : List ℕ} (k link : ℕ) {leaf : Place} {l : Filling} 
   unfolding Defaults.expand
   repeats-defaults q w = record { says = λ M kn ds y. rw q (w.says M ds (fillable-less y 12288 (omega arith))) }
 
-  pub repeats-entry : (link ≡ 0 → ⊥) → RepeatsEntry f known store k (link - 1) leaf l old at r new → Repeats f known store k link leaf l old at r new
-  repeats-entry n w = go link n w
-    where
-      go : (j : ℕ) → (j ≡ 0 → ⊥) → RepeatsEntry f known store k (j - 1) leaf l old at r new → Repeats f known store k j leaf l old at r new
-      go zero n w = absurd (n refl)
-      go (suc j) n w = let e : suc j - 1 ≡ j = omega arith in let w' = rw e at w in record { says = λ M kn ds y. w'.says M kn ds y }
+  pub repeats-entry : {e : ℕ} → link ≡ suc e → RepeatsEntry f known store k e leaf l old at r new → Repeats f known store k link leaf l old at r new
+  repeats-entry q w = record { says = λ M kn ds y. rw q (w.says M kn ds (rw q at y)) }
 
 -- ---- `repeat_entry`
 module _ {f known store : List ℕ} (k e : ℕ) {leaf : Place} {l : Filling} {at : ℕ} where
@@ -245,24 +244,20 @@ module _ {f known store : List ℕ} (k e : ℕ) {leaf : Place} {l : Filling} {at
         }
 
 -- ---- what stands for the calls
-module _ {f known store : List ℕ} (g : Ready f known store) (e : ℕ) (h : e < count f entries) {x : Entry} (is : x ≡ entry_at f e) {s : List ℕ} where
+module _ {f : List ℕ} (g : Accepted f) (e : ℕ) (h : e < count f entries) {x : Entry} (is : x ≡ entry_at f e) {s : List ℕ} where
   module _ {l : Filling} {at : ℕ} (y : DefaultsThere s l at (rooms f (entry_depth f e - 1))) where
     pub structure-there : {first many : ℕ} → x ≡ entry.Structure first many → DefaultsThere s l at (rooms f (run_depth f first many))
-    structure-there {first} {many} q = record { trees = y.trees; ready = fillable-less y.ready (rooms f (run_depth f first many)) (omega (arith, structure-depth f g.accepted e h is q)) }
+    structure-there {first} {many} q = record { trees = y.trees; ready = fillable-less y.ready (rooms f (run_depth f first many)) (omega (arith, structure-depth f g e h is q)) }
 
     pub repeat-there : {many inner : ℕ} → x ≡ entry.Repeat many inner → DefaultsThere s l at (rooms f (on_link inner 0 (entry_depth f)))
-    repeat-there {many} {inner} q = record { trees = y.trees; ready = fillable-less y.ready (rooms f (on_link inner 0 (entry_depth f))) (omega (arith, repeat-depth f g.accepted e h is q)) }
+    repeat-there {many} {inner} q = record { trees = y.trees; ready = fillable-less y.ready (rooms f (on_link inner 0 (entry_depth f))) (omega (arith, repeat-depth f g e h is q)) }
 
   module _ {begin upto at : ℕ} (y : ValueThere s begin upto at (rooms f (entry_depth f e - 1))) where
     pub member-there : {first many : ℕ} → x ≡ entry.Structure first many → ValueThere s begin upto at (rooms f (run_depth f first many))
-    member-there {first} {many} q = record { tree = y.tree; there = current-less y.there (rooms f (run_depth f first many)) (omega (arith, structure-depth f g.accepted e h is q)) }
+    member-there {first} {many} q = record { tree = y.tree; there = current-less y.there (rooms f (run_depth f first many)) (omega (arith, structure-depth f g e h is q)) }
 
     pub array-there : {first many : ℕ} → x ≡ entry.Array first many → RoomThere s at (rooms f (run_depth f first many))
-    array-there q = record { room = omega (arith, y.there.room, array-depth f g.accepted e h is q) }
-
-pub link-there : (f : List ℕ) (link : ℕ) → (link ≡ 0 → ⊥) → {s : List ℕ} {l : Filling} {at : ℕ} → DefaultsThere s l at (rooms f (on_link link 0 (entry_depth f))) → DefaultsThere s l at (rooms f (entry_depth f (link - 1)))
-link-there f zero n y = absurd (n refl)
-link-there f (suc e) n y = let q : suc e - 1 ≡ e = omega arith in rw q y
+    array-there q = record { room = omega (arith, y.there.room, array-depth f g e h is q) }
 
 pub left_there : (f : List ℕ) (e : ℕ) {s : List ℕ} {l left : Filling} {at : ℕ} → Remains l left → DefaultsThere s l at (rooms f (entry_depth f e)) → DefaultsThere s left at (rooms f (entry_depth f e - 1))
 left_there f e {s} {l} {left} {at} r y =
@@ -271,7 +266,7 @@ left_there f e {s} {l} {left} {at} r y =
       ready = record { defaults = r.says s y.trees at y.ready.defaults; few = omega (arith, r.none_made); small = omega (arith, r.no_size); room = omega (arith, y.ready.room) };
     }
 
-pub ruleset lower = (rules, opened, structure-there, repeat-there, member-there, array-there, link-there, left_there, structure-falls, structure-run, repeat-falls, repeat-link, member-falls, array-falls, array-run, run_fits, run-next, link-entry, link-falls, run-falls, members-fall, leaf-inside)
+pub ruleset lower = (rules, opened, link-some, link-none, place-shape, structure-there, repeat-there, member-there, array-there, link-there, left_there, structure-falls, structure-run, repeat-falls, repeat-link, member-falls, array-falls, array-run, run_fits, link-entry, link-falls, run-falls, members-fall, leaf-inside)
 
 pub ruleset entering = (rules, opened, expand-structure, expand-repeat, expand-simple, repeats-defaults, repeats-entry, entry-many, entry-copied)
 

@@ -19,6 +19,7 @@ use Rattle.definition.specs.Starting as Defs
 use Rattle.definition.specs.Resolve.{Memo}
 use Rattle.definition.specs.Peek.{got, wants, peek}
 use Rattle.definition.specs.Depth.{entry_depth}
+use Rattle.laws.specs.Accepted.{Accepted}
 use Rattle.laws.specs.Decoded.{inits-none, inits-next}
 use Rattle.laws.specs.Depths.{deepest-at, entry-depth-least}
 use Rattle.laws.specs.Gathers.{Gathered, gathered-rest, gathered-parts}
@@ -29,7 +30,7 @@ use Rattle.build.specs.declared.built.Unbuilt.{Unbuilt}
 use Rattle.build.specs.declared.built.Unbuilt.TheVariants as unbuilt
 use Rattle.gather.specs.declared.answers.Listed.{Listed}
 use Rattle.gather.specs.declared.answers.Filling.{Filling}
-use Rattle.gather.specs.Answers.{Listing, Filled}
+use Rattle.gather.specs.Answers.{Listing, listed, Filled}
 use Rattle.build.specs.Built.{Built, Memory, Ready}
 use Rattle.gather.specs.Room.{shapes_deep, rooms, Fillable}
 use Rattle.gather.specs.Leaves.{pushed, PushesTree}
@@ -132,23 +133,26 @@ default-there f n {l} {old} {at} {b} {mid} c {end} q g y = go (rest l.made y.tre
         }
 
 -- ---- `expand_all`
-pub record AllInv (f known store : List ℕ) (first many : ℕ) (leaf : Place) (l : Filling) (old : List ℕ) (at i from : ℕ) (now : Listed) (s : List ℕ) : Type 0 where
+pub record AllInv (f known store : List ℕ) (first many : ℕ) (leaf : Place) (l : Filling) (old : List ℕ) (at e to : ℕ) (now : Filling) (s : List ℕ) : Type 0 where
   pub long : length s ≡ length old
-  pub some : i ≤ many
+  pub runs : first ≤ e
+  pub some : e ≤ first + many
+  pub places : now.places ≡ l.places
   pub says : (M : Memo) → Memory f known store M → (ds : Trees) → Fillable old l at 0 ds → at + 24576 * (run_depth f first many + shapes_deep f) ≤ length old + 6 * suc l.size
-      → Along M (Defs.expand_all f (inits_at f first many) leaf ds l.made l.size) (Defs.expand_all f (inits_at f (first + i) (many - i)) leaf ds now.made now.size) l old at ds from now.end now.made now.size s
+      → Along M (Defs.expand_all f (inits_at f first many) leaf ds l.made l.size) (Defs.expand_all f (inits_at f e (first + many - e)) leaf ds now.made now.size) l old at ds now.from to now.made now.size s
 
 pub all_first : (f known store : List ℕ) (first many : ℕ) (leaf : Place) (l : Filling) (old : List ℕ) (at : ℕ)
-    → AllInv f known store first many leaf l old at 0 l.from (record { end = at; made = l.made; size = l.size }) old
+    → AllInv f known store first many leaf l old at first at l old
 all_first f known store first many leaf l old at =
     record {
       long = refl;
+      runs = omega arith;
       some = omega arith;
+      places = refl;
       says = λ M k ds y room.
-          let a : first + 0 ≡ first = omega arith in
-          let b : many - 0 ≡ many = omega arith in
+          let b : first + many - first ≡ many = omega arith in
           record {
-            far = rw (a, b) (so-far-none M (Defs.expand_all f (inits_at f first many) leaf ds l.made l.size) l old at (omega (arith, y.room)) y.few y.small);
+            far = rw b (so-far-none M (Defs.expand_all f (inits_at f first many) leaf ds l.made l.size) l old at (omega (arith, y.room)) y.few y.small);
             next = y.defaults;
           };
     }
@@ -159,75 +163,90 @@ all-is : (M : Memo) (f : List ℕ) (first k : ℕ) (leaf : Place) (ds : Trees) (
 unfolding Defaults.expand
 all-is M f first k leaf ds made size = rw (inits-next f first k)
 
-module _ {f known store : List ℕ} {first many : ℕ} {leaf : Place} {l : Filling} {old : List ℕ} {at i from : ℕ} {now : Listed} {s : List ℕ}
-    (y : AllInv f known store first many leaf l old at i from now s) where
-  pub all-all : i ≡ many → ExpandsAll f known store first many leaf l old at (Ok now) s
+-- the array so far, by its own places
+as_at : (l now : Filling) → now.places ≡ l.places → now_at l now.from now.made now.size ≡ now
+as_at l now e = ap (λ (p : ℕ). now_at (record { from = 0; places = p; made = 0; size = 0 }) now.from now.made now.size) (sym e)
+
+expands-as : {f known store : List ℕ} {e : ℕ} {leaf : Place} {i j : Filling} {s : List ℕ} {to : ℕ} {r : Listing} {new : List ℕ} → i ≡ j → Expands f known store e leaf i s to r new → Expands f known store e leaf j s to r new
+expands-as q w = rw q at w
+
+module _ {f known store : List ℕ} {first many : ℕ} {leaf : Place} {l : Filling} {old : List ℕ} {at e to : ℕ} {now : Filling} {s : List ℕ}
+    (y : AllInv f known store first many leaf l old at e to now s) where
+  pub all-all : e ≡ first + many → ExpandsAll f known store first many leaf l old at (listed to now.made now.size) s
   unfolding Defaults.expand
   all-all h =
       record {
         says = λ M k ds z room.
-            let e : many - i ≡ 0 = omega arith in
-            so-far-all M _ l old at (y.says M k ds z room).far (ap (λ n. Defs.expand_all f (inits_at f (first + i) n) leaf ds now.made now.size) e ∙ ap (λ is. Defs.expand_all f is leaf ds now.made now.size) (inits-none f (first + i)));
+            let n : first + many - e ≡ 0 = omega arith in
+            so-far-all M _ l old at (y.says M k ds z room).far (ap (λ n. Defs.expand_all f (inits_at f e n) leaf ds now.made now.size) n ∙ ap (λ is. Defs.expand_all f is leaf ds now.made now.size) (inits-none f e));
       }
 
-  module _ (gv : Ready f known store) (hr : first + many ≤ count f entries) (h : i < many) where
+  module _ (gv : Accepted f) (hr : first + many ≤ count f entries) (h : e < first + many) where
     all-ready : (M : Memo) → Memory f known store M → (ds : Trees) → Fillable old l at 0 ds → at + 24576 * (run_depth f first many + shapes_deep f) ≤ length old + 6 * suc l.size
-        → Fillable s (now_at l from now.made now.size) now.end (rooms f (entry_depth f (first + i) - 1)) ds
+        → Fillable s (now_at l now.from now.made now.size) to (rooms f (entry_depth f e - 1)) ds
     all-ready M k ds z room =
         let v = (y.says M k ds z room).far in
-        let d = deepest-at (entry_depth f) first many (first + i) (omega arith) (omega arith) in
-        along-ready (y.says M k ds z room) (rooms f (entry_depth f (first + i) - 1))
-        (omega (arith, v.small.room, v.ends, y.long, entry-depth-least f gv.accepted (first + i) (omega arith)))
+        let d = deepest-at (entry_depth f) first many e y.runs h in
+        along-ready (y.says M k ds z room) (rooms f (entry_depth f e - 1))
+        (omega (arith, v.small.room, v.ends, y.long, entry-depth-least f gv e (omega arith)))
 
     all-step : (M : Memo) (ds : Trees)
-        → peek M (Defs.expand_all f (inits_at f (first + i) (many - i)) leaf ds now.made now.size)
-        ≡ peek M (and_more now.made now.size (expand f (init_at f (first + i)) leaf ds now.made now.size) (λ m n. Defs.expand_all f (inits_at f (suc (first + i)) (many - (i + 1))) leaf ds m n))
+        → peek M (Defs.expand_all f (inits_at f e (first + many - e)) leaf ds now.made now.size)
+        ≡ peek M (and_more now.made now.size (expand f (init_at f e) leaf ds now.made now.size) (λ m n. Defs.expand_all f (inits_at f (e + 1) (first + many - (e + 1))) leaf ds m n))
     all-step M ds =
-        let e : many - i ≡ suc (many - (i + 1)) = omega arith in
-        ap (λ n. peek M (Defs.expand_all f (inits_at f (first + i) n) leaf ds now.made now.size)) e ∙ all-is M f (first + i) (many - (i + 1)) leaf ds now.made now.size
+        let c : e + 1 ≡ suc e = omega arith in
+        let n : first + many - e ≡ suc (first + many - suc e) = omega arith in
+        rw c (ap (λ n. peek M (Defs.expand_all f (inits_at f e n) leaf ds now.made now.size)) n ∙ all-is M f e (first + many - suc e) leaf ds now.made now.size)
 
-    module _ {new : List ℕ} where
+    module _ {r : Listing} {new : List ℕ} (x : Expands f known store e leaf now s to r new) where
+      w : Expands f known store e leaf (now_at l now.from now.made now.size) s to r new
+      w = expands-as (sym (as_at l now y.places)) x
+
       -- what `?` hands on
-      pub all-fails : {u : Unbuilt} → Expands f known store (first + i) leaf (now_at l from now.made now.size) s now.end (Err u) new → {r : Listing} → r ≡ Err u → ExpandsAll f known store first many leaf l old at r new
-      all-fails {u} w q =
+      pub all-fails : {u : Unbuilt} → r ≡ Err u → {b : Listing} → b ≡ Err u → ExpandsAll f known store first many leaf l old at b new
+      all-fails {u} j q =
           rw q (record {
             says = λ M k ds z room.
                 let v = w.says M k ds (all-ready M k ds z room) in
-                so-far-fails M _ l old at (y.says M k ds z room).far (expand f (init_at f (first + i)) leaf ds now.made now.size)
-                (λ m n. Defs.expand_all f (inits_at f (suc (first + i)) (many - (i + 1))) leaf ds m n) (all-step M ds) (now_at l from now.made now.size) refl refl refl new v.lists v.kept refl;
+                so-far-fails M _ l old at (y.says M k ds z room).far (expand f (init_at f e) leaf ds now.made now.size)
+                (λ m n. Defs.expand_all f (inits_at f (e + 1) (first + many - (e + 1))) leaf ds m n) (all-step M ds) (now_at l now.from now.made now.size) refl refl refl new
+                (lists-as M _ (now_at l now.from now.made now.size) to new j v.lists) v.kept refl;
           })
 
-      pub all_more : {r : Listing} → Expands f known store (first + i) leaf (now_at l from now.made now.size) s now.end r new → {next : Listed} → r ≡ Ok next → length new ≡ length s
-          → {from' : ℕ} → MovesOn new from now.made next.made from' → AllInv f known store first many leaf l old at (i + 1) from' next new
-      all_more w {next} j g x =
+      all-next : {next : Listed} → r ≡ Ok next → length new ≡ length s → {from' : ℕ} → MovesOn new now.from now.made next.made from'
+          → AllInv f known store first many leaf l old at (e + 1) next.end (now_at l from' next.made next.size) new
+      all-next {next} j g m =
           record {
             long = g ∙ y.long;
+            runs = omega (arith, y.runs);
             some = omega arith;
+            places = refl;
             says = λ M k ds z room.
                 let v = w.says M k ds (all-ready M k ds z room) in
-                let t = lists-as M _ (now_at l from now.made now.size) now.end new j v.lists in
-                let c : first + (i + 1) ≡ suc (first + i) = omega arith in
+                let t = lists-as M _ (now_at l now.from now.made now.size) to new j v.lists in
                 record {
                   far =
-                      rw c (so_far_more M _ l old at (y.says M k ds z room).far (expand f (init_at f (first + i)) leaf ds now.made now.size)
-                      (λ m n. Defs.expand_all f (inits_at f (suc (first + i)) (many - (i + 1))) leaf ds m n) (all-step M ds) (now_at l from now.made now.size) refl refl refl new t v.kept g);
-                  next = along-next (y.says M k ds z room) t v.kept g x;
+                      so_far_more M _ l old at (y.says M k ds z room).far (expand f (init_at f e) leaf ds now.made now.size)
+                      (λ m n. Defs.expand_all f (inits_at f (e + 1) (first + many - (e + 1))) leaf ds m n) (all-step M ds) (now_at l now.from now.made now.size) refl refl refl new t v.kept g;
+                  next = along-next (y.says M k ds z room) t v.kept g m;
                 };
           }
 
+      pub all_more : {next : Listed} → r ≡ Ok next → length new ≡ length s → {then : Filling} → then ≡ record { from = then.from; places = now.places; made = next.made; size = next.size }
+          → MovesOn new now.from now.made next.made then.from → AllInv f known store first many leaf l old at (e + 1) next.end then new
+      all_more {next} j g {then} q m =
+          let z : now_at l then.from next.made next.size ≡ then = ap (λ (p : ℕ). now_at (record { from = 0; places = p; made = 0; size = 0 }) then.from next.made next.size) (sym y.places) ∙ sym q in
+          rw z at (all-next j g m)
+
 -- what stands for the next entry
-pub all_there : {f known store : List ℕ} {first many : ℕ} {leaf : Place} {l : Filling} {old : List ℕ} {at i from : ℕ} {now : Listed} {s : List ℕ} → AllInv f known store first many leaf l old at i from now s
-    → Ready f known store → first + many ≤ count f entries → i < many → RunThere f first many old l at
-    → DefaultsThere s (now_at l from now.made now.size) now.end (rooms f (entry_depth f (first + i) - 1))
-all_there {f} {known} {store} {first} {many} {leaf} {l} {old} {at} {i} {from} {now} {s} y gv hr h z =
+pub all_there : {f classes known store : List ℕ} {first many : ℕ} {leaf : Place} {l : Filling} {old : List ℕ} {at e to : ℕ} {now : Filling} {s : List ℕ} → AllInv f known store first many leaf l old at e to now s
+    → Ready f classes known store → first + many ≤ count f entries → e < first + many → RunThere f first many old l at
+    → DefaultsThere s now to (rooms f (entry_depth f e - 1))
+all_there {f} {classes} {known} {store} {first} {many} {leaf} {l} {old} {at} {e} {to} {now} {s} y gv hr h z =
     let w = y.says gv.memo gv.memory z.trees z.ready z.room in
     let v = w.far in
-    let d = deepest-at (entry_depth f) first many (first + i) (omega arith) (omega arith) in
-    record {
-      trees = z.trees;
-      ready =
-          along-ready w (rooms f (entry_depth f (first + i) - 1))
-          (omega (arith, z.room, v.small.room, v.ends, y.long, entry-depth-least f gv.accepted (first + i) (omega arith)));
-    }
+    let d = deepest-at (entry_depth f) first many e y.runs h in
+    let p = along-ready w (rooms f (entry_depth f e - 1)) (omega (arith, z.room, v.small.room, v.ends, y.long, entry-depth-least f gv.accepted e (omega arith))) in
+    record { trees = z.trees; ready = rw (as_at l now y.places) at p }
 
 pub ruleset nesting = (rules, opened, default-there, all_there, structure-pushed, structure-fails, all_first, all-all, all-fails, all_more)

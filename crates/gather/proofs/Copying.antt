@@ -8,7 +8,7 @@ use native.Mathlib.Nat.{zero-add, zero-mul, suc-mul, mul_comm, mul_assoc}
 use mir.Syntax.{w64}
 use mir.Val.{Fits}
 use borrow.Author.Rules.{rules}
-use borrow.Author.Tests.{le-leb, leb-true}
+use borrow.Author.Tests.{le-leb, leb-true, leb-false}
 use lib.Dec.{leb}
 use lib.ListN.{length, take, drop}
 use lib.Seq.{paste}
@@ -39,11 +39,11 @@ use Rattle.build.specs.Built.{Built}
 use Rattle.gather.specs.declared.answers.Listed.{Listed}
 use Rattle.gather.specs.declared.answers.Filling.{Filling}
 use Rattle.gather.specs.Answers.{Listing, listed, stopped, Lists}
-use Rattle.gather.specs.Leaves.{unlisted_of, allowed_of}
+use Rattle.build.specs.Unfit.{unlisted_of}
+use Rattle.build.proofs.spread.Laws.{product-comm}
 use Rattle.gather.specs.Room.{Defaults, Fillable, Current}
-use Rattle.gather.specs.Copies.{TakesFirst, CopiesWords, PushesWords, CopiesFields, CopiesStructure, CopiesDefault, MovesOn, Remains, CopiesList, PushesCopies, NextDefault}
+use Rattle.gather.specs.Copies.{TakesFirst, CopiesWords, PushesWords, CopiesFields, CopiesStructure, CopiesDefault, DefaultEnds, MovesOn, Remains, CopiesList, PushesCopies, NextDefault}
 use Rattle.gather.proofs.Onward.{peek-stops, lists-as, lists-same}
-use Rattle.gather.proofs.Single.{allowed-err}
 use Rattle.build.proofs.leaves.Laws.{paste-kept, wrote_kept, node_kept}
 use Rattle.std.specs.Prelude.{Err, None, Ok, Option, Some}
 use Rattle.std.specs.Prelude as std
@@ -128,7 +128,7 @@ module _ {begin end : ℕ} (count : ℕ) {old : List ℕ} {at : ℕ} {x : Option
   fields-not q p = rw p record { kept = w.kept; says = λ t c k n. let z = fields-words t c in let n : ◌≡◌ {A = ℕ} 0 1 = cc z.0 in absurd (omega arith) }
 
 -- ---- `copy_structure`
-value-structure : (t : Tree) → (head t).kind ≡ 14 → value_is t ≡ value.Structure (many (parts t))
+pub value-structure : (t : Tree) → (head t).kind ≡ 14 → value_is t ≡ value.Structure (many (parts t))
 unfolding value_is head parts
 value-structure (node h ts) e = rw e
 
@@ -219,6 +219,22 @@ default-past l old at h = record { kept = refl; says = λ ds y. go ds y (rest l.
     go ds y tnil e = refl
     go ds y (tcons t us) e = absurd (past-none y h t us e)
 
+-- by whether a place is left
+module _ {l : Filling} {s : List ℕ} {x : Option ℕ} (d : DefaultEnds l s x) where
+  by_left : (P : Type 0) → (x ≡ whole_of s l.from → l.made < l.places → P) → (l.places ≤ l.made → x ≡ None → P) → P
+  by_left P a b = go (leb l.places l.made) refl
+    where
+      go : (t : Bool) → leb l.places l.made ≡ t → P
+      go true e = let h = leb-true l.places l.made e in b h (d.past h)
+      go false e = let h = leb-false l.places l.made e in a (d.left h) h
+
+module _ {l : Filling} {old : List ℕ} {at : ℕ} {x : Option ℕ} (d : DefaultEnds l old x) where
+  pub default-ends : {e : ℕ} → x ≡ Some e → {r : Built} {new : List ℕ} → CopiesStructure l.from e old at r new → CopiesDefault l old at r new
+  default-ends i {r} {new} w = by_left d (CopiesDefault l old at r new) (λ q h. default-copied l at q h i w) (λ h n. let z : ◌≡◌ {A = ℕ} 0 1 = cc in absurd (omega arith))
+
+  pub default-none : x ≡ None → {r : Built} → r ≡ Err unbuilt.None → CopiesDefault l old at r old
+  default-none i {r} p = by_left d (CopiesDefault l old at r old) (λ q h. default-not l at q h i p) (λ h n. rw p (default-past l old at h))
+
 -- ---- `push_words`
 -- what does not fit is what the definition stops with
 misfit-stops : (m : Misfit) (ts : Trees) → got (outcome_of (Err m) ts) ≡ stopped (unlisted_of m)
@@ -239,10 +255,8 @@ module _ (begin end : ℕ) (l : Filling) (old : List ℕ) (at : ℕ) {n : ℕ} (
       let f : added_of l.places l.made l.size (many (one t)) (nodes_in (one t)) ≡ a = rw (d, e) (sym q) in
       ap (peek M) (added_is l.places l.made l.size (one t)) ∙ peek-done M _ ∙ ap (λ x. got (outcome_of x (one t))) f
 
-  pub words-not : {w : std.Result (Unit {0}) Unbuilt} → w ≡ allowed_of a → {u : Unbuilt} → w ≡ Err u → {r : Listing} → r ≡ Err u → PushesWords begin end l old at r old
-  words-not k {u} i {r} p =
-      let z = allowed-err a k i in
-      record { kept = refl; says = λ M t c room. rw (p, ← z.why) (words-peek M t c ∙ ap (λ x. got (outcome_of x (one t))) z.is ∙ misfit-stops z.misfit (one t)) }
+  pub words-not : {m : Misfit} → a ≡ Err m → {r : Listing} → r ≡ Err (unlisted_of m) → PushesWords begin end l old at r old
+  words-not {m} i {r} p = record { kept = refl; says = λ M t c room. rw p (words-peek M t c ∙ ap (λ x. got (outcome_of x (one t))) i ∙ misfit-stops m (one t)) }
 
   module _ {u : Unit {0}} (i : a ≡ Ok u) {y : Option ℕ} {new : List ℕ} (w : CopiesWords begin end old at y new) where
     words-there : (t : Tree) → Current old begin end t at 0 → at + 12282 ≤ length old + 6 * l.size
@@ -304,6 +318,13 @@ next_past l old at h = record { kept = refl; says = λ M ds y room. go M ds y (r
         → peek M (on_first us (λ t ts. added l.places l.made l.size (one t))) ≡ got none
     go M ds y tnil e = peek-nothing M
     go M ds y (tcons t us) e = absurd (past-none y h t us e)
+
+module _ {l : Filling} {old : List ℕ} {at : ℕ} {x : Option ℕ} (d : DefaultEnds l old x) where
+  pub next-ends : {e : ℕ} → x ≡ Some e → {r : Listing} {new : List ℕ} → PushesWords l.from e l old at r new → NextDefault l old at r new
+  next-ends i {r} {new} w = by_left d (NextDefault l old at r new) (λ q h. next-pushed l old at q h i w) (λ h n. let z : ◌≡◌ {A = ℕ} 0 1 = cc in absurd (omega arith))
+
+  pub next-none : x ≡ None → {r : Listing} → r ≡ Err unbuilt.None → NextDefault l old at r old
+  next-none i {r} p = by_left d (NextDefault l old at r old) (λ q h. next-not l old at q h i p) (λ h n. rw p (next_past l old at h))
 
 -- ---- `moved_on`
 pub rest-zero : (ts : Trees) → rest 0 ts ≡ ts
@@ -439,9 +460,6 @@ grew-kept true true {old} {at} {src} {n} h g = ap (take at) g.is ∙ paste-kept 
 grew-kept true false {old} {at} h g = ap (take at) g.is
 grew-kept false test {old} {at} h g = ap (take at) g.is
 
-times-six : (n k : ℕ) → n * 6 * k ≡ 6 * (k * n)
-times-six n k = mul_comm (n * 6) k ∙ sym (mul_assoc k n 6) ∙ mul_comm (k * n) 6
-
 module _ (values nodes k : ℕ) (l : Filling) {a : Added} (q : a ≡ copied_of k l.places l.made l.size values nodes) where
   copied-peek : (M : Memo) (ts : Trees) → many ts ≡ values → nodes_in ts ≡ nodes → peek M (copied k ts l.places l.made l.size) ≡ got (outcome_of a (times k ts))
   copied-peek M ts m n =
@@ -466,7 +484,7 @@ module _ (values nodes k : ℕ) (l : Filling) (at : ℕ) {a : Added} (q : a ≡ 
       list-first = omega (arith, x.fits, list-end)
 
       list-room : at + nodes * 6 * k ≤ length old
-      list-room = omega (arith, list-small, times-six nodes k)
+      list-room = omega (arith, list-small, product-comm nodes k)
 
       list-few : suc (k * nodes) ≤ most_nodes
       list-few = omega (arith, list-small)
@@ -488,7 +506,7 @@ module _ (values nodes k : ℕ) (l : Filling) (at : ℕ) {a : Added} (q : a ≡ 
               record {
                 trees = times k ts;
                 is = copied-peek values nodes k l q M ts m n ∙ ap (λ c. got (outcome_of c (times k ts))) i;
-                ends = omega (arith, times-six nodes k);
+                ends = omega (arith, product-comm nodes k);
                 counts = ap (λ d. l.made + d) (sym d);
                 sizes = ap (λ d. l.size + d) (sym c);
                 stands = rw y (repeated-there old at (nodes * 6) k ts (rw (list-end ts x n s room) at x) (list-room ts x n s room) (list-new ts x n s room));
@@ -502,12 +520,11 @@ module _ (values nodes k : ℕ) (l : Filling) (at : ℕ) {a : Added} (q : a ≡ 
     list-not {u} j =
         record { kept = list-kept; says = λ M ts e x good m n f s room. let z : ◌≡◌ {A = ℕ} 0 1 = cc (list-says ts x n s room) in absurd (omega arith) }
 
-  pub list-fails : (old : List ℕ) → {w : std.Result (Unit {0}) Unbuilt} → w ≡ allowed_of a → {u : Unbuilt} → w ≡ Err u → {r : Listing} → r ≡ Err u → CopiesList values nodes k l old at r old
-  list-fails old d {u} i {r} p =
-      let z = allowed-err a d i in
+  pub list-fails : (old : List ℕ) → {m : Misfit} → a ≡ Err m → {r : Listing} → r ≡ Err (unlisted_of m) → CopiesList values nodes k l old at r old
+  list-fails old {m} i {r} p =
       record {
         kept = refl;
-        says = λ M ts e x g m n f s room. rw (p, ← z.why) (copied-peek values nodes k l q M ts m n ∙ ap (λ c. got (outcome_of c (times k ts))) z.is ∙ misfit-stops z.misfit (times k ts));
+        says = λ M ts e x g c n f s room. rw p (copied-peek values nodes k l q M ts c n ∙ ap (λ c. got (outcome_of c (times k ts))) i ∙ misfit-stops m (times k ts));
       }
 
 -- ---- `push_copies`

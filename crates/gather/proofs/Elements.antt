@@ -4,7 +4,7 @@ use mathlib.Core.Path.{◌≡◌, refl, ap, sym, ◌∙◌}
 use mathlib.Core.List.{List, [], ◌∷◌}
 use Prim.Native.Nat.{ℕ, ◌+◌, ◌*◌, ◌^◌, ◌≤◌, ◌<◌}
 use native.Mathlib.Omega.{arith}
-use lib.ListN.{length}
+use lib.ListN.{length, take}
 use borrow.Author.Rules.{rules}
 use mir.Syntax.{w64}
 use mir.Val.{Fits}
@@ -32,7 +32,7 @@ use Rattle.places.specs.Inside.{PlaceIn, element-shape}
 use Rattle.build.specs.declared.built.Unbuilt.{Unbuilt}
 use Rattle.build.specs.declared.built.Unbuilt.TheVariants as unbuilt
 use Rattle.build.specs.Built.{Built}
-use Rattle.build.specs.Built.{answer_of, Ready}
+use Rattle.build.specs.Built.{answer_of, Gives, Ready}
 use Rattle.build.specs.Built as of-build
 use Rattle.build.specs.Parts.{start_levels, array_words, WholeAt}
 use Rattle.build.specs.Spread.{FlatAt, Flattens}
@@ -42,10 +42,19 @@ use Rattle.build.proofs.Levels.{element-under}
 use Rattle.gather.specs.Answers.{Listing, listed, stopped, Lists}
 use Rattle.std.specs.Prelude.{Err, Ok}
 use Rattle.gather.specs.Room.{RoomThere, shapes_deep, whole}
-use Rattle.gather.specs.Elements.{EndsWhole, TakesHead, ElementDefaults}
+use Rattle.gather.specs.Elements.{ElementDefaults}
 use Rattle.gather.proofs.Arrays.{many-nodes}
 
--- ---- `take_head`
+-- ---- the values of an array, moved to where its head was
+-- where an answer ends, a whole tree stands
+pub record EndsWhole (b : Built) (s : List ℕ) (at : ℕ) : Type 0 where
+  pub stands : (e : ℕ) → b ≡ Ok e → WholeAt s at e
+
+-- what `build` says of values under a head, for the values alone
+pub record TakesHead (b : Built) (old : List ℕ) (at : ℕ) (r : Listing) (new : List ℕ) : Type 0 where
+  pub kept : take at new ≡ take at old
+  pub says : (M : Memo) (m : Ask (Result Trees)) → ((ts : Trees) → peek M m ≡ got (ok ts) → Gathered 0 ts) → Gives array_words (peek M m) at b old → Lists M m whole at r new
+
 flat-array : (ts : Trees) → flat (array_tree ts) ≡ ts
 unfolding flat array_tree headed head parts
 flat-array ts = refl
@@ -129,7 +138,7 @@ module _ {f known store : List ℕ} (place : Place) {old : List ℕ} (at : ℕ) 
   unfolding element_defaults
   elements-none h = record { says = λ M k room. record { kept = refl; lists = ap (peek M) (no-array f place place.shape h) ∙ peek-nothing M } }
 
-module _ {f known store : List ℕ} (g : Ready f known store) (place : Place) (i : PlaceIn f place) (at : ℕ) where
+module _ {f classes known store : List ℕ} (g : Ready f classes known store) (place : Place) (i : PlaceIn f place) (at : ℕ) where
   module _ {s first many : ℕ} (e : place.shape ≡ shape.Array s first many) {old : List ℕ} (z : RoomThere old at (12282 + 24576 * shapes_deep f)) where
     pub elements-room : at + 6 + start_levels f (element_place f place s) * 12288 ≤ length old
     unfolding shapes_deep

@@ -20,6 +20,7 @@ use Rattle.tree_changes.specs.Limit.{added_of}
 use Rattle.tree_changes.proofs.Limits.{added_is, outcome_of}
 use Rattle.tree.proofs.Stands.{stand-append, stand-kept, rest-stand}
 use Rattle.build.specs.declared.built.Unbuilt.{Unbuilt}
+use Rattle.build.proofs.Gathers.{join-nil}
 use Rattle.build.specs.declared.built.Unbuilt.TheVariants as unbuilt
 use Rattle.gather.specs.declared.answers.Listed.{Listed}
 use Rattle.gather.specs.declared.answers.Filling.{Filling}
@@ -40,11 +41,6 @@ behind_result vs large = got large
 abbrev pub behind : Trees → Peek (Result Trees) → Peek (Result Trees)
 behind vs (got r) = behind_result vs r
 behind vs (wants d) = wants d
-
-join-nil : (ts : Trees) → join ts tnil ≡ ts
-unfolding join
-join-nil tnil = refl
-join-nil (tcons t ts) = ap (tcons t) (join-nil ts)
 
 join-assoc : (ts us vs : Trees) → join ts (join us vs) ≡ join (join ts us) vs
 unfolding join
@@ -183,7 +179,7 @@ added-same M p m s ts us e = go (added_of p m s (many ts) (nodes_in ts)) (sym (a
     go (Err misfit.TooMany) q = let z : ◌≡◌ {A = ℕ} 0 1 = cc in absurd (omega arith)
     go (Err misfit.TooLarge) q = let z : ◌≡◌ {A = ℕ} 0 1 = cc in absurd (omega arith)
 
-never-ok : (M : Memo) (ts : Trees) → peek M nothing ≡ got (ok ts) → ⊥
+pub never-ok : (M : Memo) (ts : Trees) → peek M nothing ≡ got (ok ts) → ⊥
 never-ok M ts e = let q : got none ≡ got (ok ts) = sym (peek-nothing M) ∙ e in let z : ◌≡◌ {A = ℕ} 0 1 = cc in omega arith
 
 module _ (places made size : ℕ) (M : Memo) (n : ℕ) where
@@ -308,6 +304,14 @@ module _ {k : ℕ} {l : Filling} {old : List ℕ} {at left : ℕ} {now : Filling
             let b : rest v.made ds ≡ us = ap (λ x. rest x ds) (sym a) ∙ rest-next now.made ds u us q in
             rw b (so_far_more M _ l old at (y.says M ds z).far (added l.places now.made now.size (one u)) (defaulted more us l.places) (step_is M u us ds q)
             (now_at l now.from now.made now.size) refl refl refl new t w.kept g)
+
+-- the array as `moved_on` leaves it
+pub each_on : {k : ℕ} {l : Filling} {old : List ℕ} {at left : ℕ} {now : Filling} {to : ℕ} {s : List ℕ} (y : EachInv k l old at left now to s) {more : ℕ} (h : left ≡ suc more) {b : Listing} {new : List ℕ}
+    (x : NextDefault now s to b new) {v : Listed} → b ≡ Ok v → length new ≡ length s → {then : Filling} → then ≡ record { from = then.from; places = now.places; made = v.made; size = v.size }
+    → MovesOn new now.from now.made v.made then.from → EachInv k l old at more then v.end new
+each_on {l = l} {now = now} y h x {v} j g {then} e f =
+    let z : now_at l then.from v.made v.size ≡ then = ap (λ (p : ℕ). now_at (record { from = 0; places = p; made = 0; size = 0 }) then.from v.made v.size) (sym y.places) ∙ sym e in
+    rw z at (each_more y h x j g f)
 
 -- ---- `push_defaults`
 module _ (k : ℕ) {l : Filling} {old : List ℕ} {at : ℕ} where

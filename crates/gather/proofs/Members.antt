@@ -77,10 +77,10 @@ module _ {f : List ℕ} (a : Accepted f) (p : Place) (i : PlaceIn f p) (e : ℕ)
 
 -- ---- `put_member`
 -- the head of a structure, and the structure with a field assigned
-abbrev head_of : Trees → Node
+abbrev pub head_of : Trees → Node
 head_of ts = record { name = 0; kind = 14; sign = 0; low = many ts; high = 0; width = 0 }
 
-structure-node : (ts : Trees) → structure_tree ts ≡ node (head_of ts) ts
+pub structure-node : (ts : Trees) → structure_tree ts ≡ node (head_of ts) ts
 unfolding structure_tree headed
 structure-node ts = refl
 
@@ -196,5 +196,8 @@ module _ {b : Built} (at end begin upto name : ℕ) where
   pub puts_none : {u : Unbuilt} → b ≡ Err u → {r : Built} → r ≡ Err u → {old : List ℕ} → PutsMember b at end begin upto name old r old
   puts_none {u} q {r} e {old} =
       rw e (record { says = λ M m fields x p y. record { kept = refl; sets = λ k. peek-stops M m (λ t. gathered 0 (assigned name t fields) >>= k) u (builds-as M m end old q y) } })
+
+pub puts-as : {b : Built} {to : ℕ} → b ≡ Ok to → {at end begin upto name : ℕ} {old : List ℕ} {r : Built} {new : List ℕ} → PutsMember (Ok to) at end begin upto name old r new → PutsMember b at end begin upto name old r new
+puts-as q w = rw q w
 
 pub ruleset laws = (rules, finds-at, finds-none, finds-nothing, puts-ends, puts-fails, puts_none)

@@ -19,9 +19,8 @@ use Rattle.build.specs.Built.{Built}
 use Rattle.gather.specs.declared.answers.Filling.{Filling}
 use Rattle.gather.specs.Answers.{Listing, listed, stopped, Builds, Lists}
 use Rattle.gather.specs.Leaves.{on_added}
-use Rattle.std.specs.Prelude.{Err, None, Ok, Option, Some}
+use Rattle.std.specs.Prelude.{Err, Ok}
 use Rattle.std.specs.Prelude as std
-use Rattle.std.specs.Option.{ok_or}
 use native.Mathlib.Omega.{arith}
 use Rattle.tree_changes.specs.declared.limit.Misfit.TheVariants as misfit
 use Rattle.tree_changes.specs.Limit.{Added}
@@ -37,15 +36,6 @@ peek-stops M m g u h = go u h
     go unbuilt.None h = peek-none M m g h
     go unbuilt.TooLarge h = peek-large M m g h
     go (unbuilt.Wanted d) h = peek-wanted M m g d h
-
--- ---- what `ok_or(Unbuilt::None)?` leaves
-pub some-of : {A : Type 0} {x : Option A} {a : std.Result A Unbuilt} → a ≡ ok_or x unbuilt.None → {v : A} → a ≡ Ok v → x ≡ Some v
-some-of {x = Some y} k {v} i = let e : y ≡ v = cc in ap Some e
-some-of {x = None} k i = let z : ◌≡◌ {A = ℕ} 0 1 = cc in absurd (omega arith)
-
-pub none-of : {A B : Type 0} {x : Option A} {a : std.Result A Unbuilt} → a ≡ ok_or x unbuilt.None → {u : Unbuilt} → a ≡ Err u → {r : std.Result B Unbuilt} → r ≡ Err u → (x ≡ None) × (r ≡ Err unbuilt.None)
-none-of {x = Some y} k i q = let z : ◌≡◌ {A = ℕ} 0 1 = cc in absurd (omega arith)
-none-of {x = None} k {u} i q = let e : u ≡ unbuilt.None = cc in (refl, q ∙ ap Err e)
 
 -- ---- an answer, named
 pub builds-as : (M : Memo) (m : Ask Outcome) (at : ℕ) {b c : Built} (s : List ℕ) → b ≡ c → Builds M m at b s → Builds M m at c s

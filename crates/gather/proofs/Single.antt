@@ -36,9 +36,10 @@ use Rattle.build.specs.declared.built.Unbuilt.{Unbuilt}
 use Rattle.build.specs.Built.{Built}
 use Rattle.build.specs.Built.{Gives}
 use Rattle.build.specs.Leaves.{PutsLeaf}
+use Rattle.build.specs.Unfit.{unlisted_of}
 use Rattle.gather.specs.declared.answers.Filling.{Filling}
 use Rattle.gather.specs.Answers.{Listing, listed, TreeThere, Builds, Lists}
-use Rattle.gather.specs.Leaves.{simple_of, unlisted_of, allowed_of, on_added, pushed, Puts, Pushes, PushesTree, PushesSimple, PutsSimple}
+use Rattle.gather.specs.Leaves.{simple_of, on_added, pushed, Puts, Pushes, PushesTree}
 use Rattle.gather.proofs.Onward.{peek-stops, builds-as, lists-added}
 use Rattle.std.specs.Prelude.{Err, None, Ok, Option, Some}
 use Rattle.std.specs.Prelude as std
@@ -93,29 +94,7 @@ leaf-built {v} {old} {at} {r} {new} x = record { kept = x.kept; says = λ M o p 
     go M none small g = rw g.says (peek-done M none)
     go M large small g = rw g.says (peek-done M large)
 
--- ---- `allowed`
-pub allowed-ok : (a : Added) {w : std.Result (Unit {0}) Unbuilt} → w ≡ allowed_of a → {u : Unit {0}} → w ≡ Ok u → a ≡ Ok u
-allowed-ok (Ok v) k {u} i = let e : v ≡ u = cc in ap Ok e
-allowed-ok (Err m) k i = let z : ◌≡◌ {A = ℕ} 0 1 = cc in absurd (omega arith)
-
--- why they do not fit
-pub record Unfitting (a : Added) (u : Unbuilt) : Type 0 where
-  pub misfit : Misfit
-  pub is : a ≡ Err misfit
-  pub why : unlisted_of misfit ≡ u
-
-pub allowed-err : (a : Added) {w : std.Result (Unit {0}) Unbuilt} → w ≡ allowed_of a → {u : Unbuilt} → w ≡ Err u → Unfitting a u
-allowed-err (Ok v) k i = let z : ◌≡◌ {A = ℕ} 0 1 = cc in absurd (omega arith)
-allowed-err (Err m) k i = record { misfit = m; is = refl; why = cc }
-
--- ---- `push_one`, `push_tree`
-module _ (places made size values nodes : ℕ) {a : Added} (q : a ≡ added_of places made size values nodes) (r : Listing) where
-  pub one-fits : {w : std.Result (Unit {0}) Unbuilt} → w ≡ allowed_of a → {u : Unit {0}} → w ≡ Ok u → r ≡ on_added (added_of places made size values nodes) r
-  one-fits k i = rw (← q, allowed-ok a k i)
-
-  pub one-not : {w : std.Result (Unit {0}) Unbuilt} → w ≡ allowed_of a → {u : Unbuilt} → w ≡ Err u → {s : Listing} → s ≡ Err u → s ≡ on_added (added_of places made size values nodes) r
-  one-not k i e = let z = allowed-err a k i in rw (← q, z.is) (e ∙ ap Err (sym z.why))
-
+-- ---- `push_tree`
 module _ {b : Built} (l : Filling) (at : ℕ) where
   pub push-ends : {e : ℕ} → b ≡ Ok e → {n : ℕ} → ((k : ℕ) → e ≡ at + 6 * k → n ≡ k) → {r : Listing} → r ≡ on_added (added_of l.places l.made l.size 1 n) (listed e (l.made + 1) (l.size + n))
       → PushesTree b l at r
@@ -136,6 +115,17 @@ module _ {b : Built} (l : Filling) (at : ℕ) where
   pub push-fails : {u : Unbuilt} → b ≡ Err u → {r : Listing} → r ≡ Err u → PushesTree b l at r
   push-fails {u} q e = record { says = λ M m s y. rw e (peek-stops M m (λ t. added l.places l.made l.size (one t)) u (builds-as M m at s q y)) }
 
+-- a tree that ends there, where it may be added or not
+module _ (l : Filling) (at : ℕ) {e n : ℕ} (counts : (k : ℕ) → e ≡ at + 6 * k → n ≡ k) {a : Added} (q : a ≡ added_of l.places l.made l.size 1 n) where
+  pub tree-fits : {u : Unit {0}} → a ≡ Ok u → PushesTree (Ok e) l at (listed e (l.made + 1) (l.size + n))
+  tree-fits i = push-ends l at refl counts (rw (← q, i) refl)
+
+  pub tree-not : {m : Misfit} → a ≡ Err m → {r : Listing} → r ≡ Err (unlisted_of m) → PushesTree (Ok e) l at r
+  tree-not i p = push-ends l at refl counts (rw (← q, i) p)
+
+pub tree-as : {b : Built} {l : Filling} {at e : ℕ} {r : Listing} → b ≡ Ok e → PushesTree (Ok e) l at r → PushesTree b l at r
+tree-as q w = rw q w
+
 pub push-leaf : {v : Option Constant} {l : Filling} {old : List ℕ} {at : ℕ} {b : Built} {new : List ℕ} → PutsLeaf v at old b new → {r : Listing} → PushesTree b l at r → Pushes v l old at r new
 push-leaf x t = let p = leaf-built x in record { kept = p.kept; says = λ M o q small room. t.says M (done o) _ (p.says M o q small room) }
 
@@ -143,7 +133,7 @@ push-leaf x t = let p = leaf-built x in record { kept = p.kept; says = λ M o q 
 small-leaf : (kind sign low high width : ℕ) → kind ≤ 12 → Small (leaf kind sign low high width)
 small-leaf kind sign low high width h = sized-leaf Good kind sign low high width (good-leaf kind sign low high width h)
 
-small-simple : (f : List ℕ) (s : Shape) (x : Entry) → OnOk Small (simple_of f s x)
+pub small-simple : (f : List ℕ) (s : Shape) (x : Entry) → OnOk Small (simple_of f s x)
 unfolding simple_of
 small-simple f s (entry.Constant number) = leaf-constant_value Small small-leaf f s (constant_at f number)
 small-simple f s (entry.Enumerated value qualifier) = leaf-enumerated_value Small small-leaf f s value qualifier
@@ -154,17 +144,8 @@ small-simple f s entry.LateBound = tt
 small-simple f s (entry.Repeat many inner) = tt
 small-simple f s entry.Unknown = tt
 
-module _ (f : List ℕ) (e : ℕ) (place : Place) {v : Option Constant} (q : as_tree (result_of v) ≡ simple_of f place.shape (entry_at f e)) {old : List ℕ} {at : ℕ} {new : List ℕ} where
-  pub simple-pushed : {l : Filling} {r : Listing} → Pushes v l old at r new → PushesSimple f e place l old at r new
-  simple-pushed w = record { kept = w.kept; says = λ M room. w.says M (simple_of f place.shape (entry_at f e)) q (small-simple f place.shape (entry_at f e)) room }
-
-  pub simple-put : {r : Built} → PutsLeaf v at old r new → PutsSimple f e place old at r new
-  simple-put x = let w = leaf-built x in record { kept = w.kept; says = λ M room. w.says M (simple_of f place.shape (entry_at f e)) q (small-simple f place.shape (entry_at f e)) room }
-
 pub place-shape : {f : List ℕ} {place : Place} → PlaceIn f place → ShapeIn f place.shape
 place-shape i = i.shape
-
-pub ruleset simples = (rules, opened, simple-pushed, simple-put, place-shape)
 
 pub ruleset laws = (
   rules,
@@ -175,8 +156,8 @@ pub ruleset laws = (
   simple-other,
   constant-inside,
   simple-inside,
-  one-fits,
-  one-not,
+  tree-fits,
+  tree-not,
   count_fits,
   size_fits,
   push-ends,

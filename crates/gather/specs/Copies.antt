@@ -1,5 +1,5 @@
 -- What stands in the room is copied, repeated or takes the place of something else.
-use Rattle.std.specs.Prelude.{◌≡◌, List, ℕ, suc, ◌+◌, ◌*◌, ◌≤◌, leb, length, take, drop, ◌⊎◌}
+use Rattle.std.specs.Prelude.{◌≡◌, List, ℕ, suc, ◌+◌, ◌*◌, ◌≤◌, ◌<◌, leb, length, take, drop, ◌⊎◌}
 use Rattle.definition.specs.Base.{choose}
 use Rattle.definition.specs.Tree.{Tree, Trees, tnil, tcons, head, parts, many, nodes, nodes_in, flatten, flatten_all, array_tree, structure_tree, one, rest, most_nodes}
 use Rattle.definition.specs.Ask.{Result, ok, none, Outcome, Ask, ◌>>=◌, give, nothing, gathered}
@@ -10,6 +10,7 @@ use Rattle.definition.specs.Peek.{peek}
 use Rattle.laws.specs.Gathers.{Gathered}
 use Rattle.laws.specs.Whole.{Goods}
 use Rattle.tree.specs.Words.{Stand}
+use Rattle.tree.specs.Extent.{whole_of}
 use Rattle.tree.specs.Part.{span, place, find_of}
 use Rattle.definition.specs.declared.records.Place.{Place}
 use Rattle.definition.specs.Records.{entry_name}
@@ -56,6 +57,11 @@ TakesFirst (tcons t ts) at r new = Takes t at r new
 pub record CopiesDefault (l : Filling) (old : List ℕ) (at : ℕ) (r : Built) (new : List ℕ) : Type 0 where
   pub kept : take at new ≡ take at old
   pub says : (ds : Trees) → Fillable old l at 12288 ds → TakesFirst (rest l.made ds) at r new
+
+-- where the next default ends, if one is left
+pub record DefaultEnds (l : Filling) (s : List ℕ) (r : Option ℕ) : Type 0 where
+  pub left : l.made < l.places → r ≡ whole_of s l.from
+  pub past : l.places ≤ l.made → r ≡ None
 
 -- where the default of the next place stands, once there are more values
 pub record MovesOn (s : List ℕ) (from made more r : ℕ) : Type 0 where

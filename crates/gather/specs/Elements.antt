@@ -14,15 +14,6 @@ use Rattle.gather.specs.Answers.{Listing, Lists, Filled}
 use Rattle.std.specs.Prelude.{Ok}
 use Rattle.gather.specs.Room.{shapes_deep, whole}
 
--- where an answer ends, a whole tree stands
-pub record EndsWhole (b : Built) (s : List ℕ) (at : ℕ) : Type 0 where
-  pub stands : (e : ℕ) → b ≡ Ok e → WholeAt s at e
-
--- what `build` says of values under a head, for the values alone
-pub record TakesHead (b : Built) (old : List ℕ) (at : ℕ) (r : Listing) (new : List ℕ) : Type 0 where
-  pub kept : take at new ≡ take at old
-  pub says : (M : Memo) (m : Ask (Result Trees)) → ((ts : Trees) → peek M m ≡ got (ok ts) → Gathered 0 ts) → Gives array_words (peek M m) at b old → Lists M m whole at r new
-
 -- the defaults of an array's elements
 pub record ElementDefaults (f known store : List ℕ) (place : Place) (old : List ℕ) (at : ℕ) (r : Listing) (new : List ℕ) : Type 0 where
   pub says : (M : Memo) → Memory f known store M → at + (12282 + 24576 * shapes_deep f) ≤ length old → Filled M (element_defaults f (default_of f) place) whole old at r new

@@ -17,6 +17,7 @@ use Rattle.definition.specs.Ask.{result_of}
 use Rattle.build.specs.declared.built.Unbuilt.{Unbuilt}
 use Rattle.build.specs.declared.built.Unbuilt.TheVariants as unbuilt
 use Rattle.build.specs.Built.{Built}
+use Rattle.build.specs.Unfit.{unlisted_of}
 use Rattle.gather.specs.declared.answers.Filling.{Filling}
 use Rattle.gather.specs.Answers.{Listing, Builds, Lists}
 use Rattle.std.specs.Prelude.{Err, Ok, Option}
@@ -36,15 +37,6 @@ simple_of f s (entry.Expression number) = expression_value f s (expr_at f number
 simple_of f s entry.LateBound = none
 simple_of f s (entry.Repeat many inner) = none
 simple_of f s entry.Unknown = none
-
--- why values that do not fit give no array
-abbrev pub unlisted_of : Misfit → Unbuilt
-unlisted_of misfit.TooMany = unbuilt.None
-unlisted_of misfit.TooLarge = unbuilt.TooLarge
-
-abbrev pub allowed_of : Added → std.Result (Unit {0}) Unbuilt
-allowed_of (Ok u) = Ok u
-allowed_of (Err m) = Err (unlisted_of m)
 
 -- an answer where values fit, or why they do not
 abbrev pub on_added : Added → Listing → Listing
@@ -68,12 +60,3 @@ pub record Pushes (v : Option Constant) (l : Filling) (old : List ℕ) (at : ℕ
 -- a tree that stands at a place becomes the next
 pub record PushesTree (b : Built) (l : Filling) (at : ℕ) (r : Listing) : Type 0 where
   pub says : (M : Memo) (m : Ask Outcome) (s : List ℕ) → Builds M m at b s → Lists M (pushed l m) l at r s
-
--- the two for an entry, by its record
-pub record PushesSimple (f : List ℕ) (e : ℕ) (leaf : Place) (l : Filling) (old : List ℕ) (at : ℕ) (r : Listing) (new : List ℕ) : Type 0 where
-  pub kept : take at new ≡ take at old
-  pub says : (M : Memo) → at + 6 ≤ length old → Lists M (pushed l (done (simple_of f leaf.shape (entry_at f e)))) l at r new
-
-pub record PutsSimple (f : List ℕ) (e : ℕ) (place : Place) (old : List ℕ) (at : ℕ) (r : Built) (new : List ℕ) : Type 0 where
-  pub kept : take at new ≡ take at old
-  pub says : (M : Memo) → at + 6 ≤ length old → Builds M (done (simple_of f place.shape (entry_at f e))) at r new

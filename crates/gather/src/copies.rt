@@ -1,19 +1,20 @@
 // What stands in the room is copied, repeated, or takes the place of something else. Nothing here calls back.
 #![tactic(auto, using(crate::proofs::Arrays::laws))]
 
-ghost use Rattle.std.specs.Prelude.{◌≡◌, ◌-◌, ◌≤◌};
+ghost use Rattle.std.specs.Prelude.{◌≡◌, ◌-◌, ◌≤◌, Ok};
 ghost use Rattle.shapes.specs.Classes.{Classes};
 ghost use Rattle.places.specs.Inside.{PlaceIn};
-ghost use Rattle.gather.specs.Copies.{CopiesWords, PushesWords, CopiesFields, CopiesStructure, CopiesDefault, MovesOn, Remains, CopiesList, PushesCopies, NextDefault, EachDefault, PushesDefaults, FillsOver, FillsRest, PutsHead, Heads, Finds, PutsMember};
+ghost use Rattle.gather.specs.Copies.{CopiesWords, PushesWords, CopiesFields, CopiesStructure, CopiesDefault, CopiesList, NextDefault, EachDefault, PushesDefaults, FillsOver, PutsHead, Finds, PutsMember};
 
 use crate::answers::{Filling, Listed};
-use crate::leaves::{allowed, nodes_between};
+use crate::leaves::nodes_between;
 use build::built::Unbuilt;
+use build::known::Known;
 use definition::layout::{ENTRIES, NODE_WORDS};
 use definition::records::Place;
 use places::field::field_place;
 use records::file::File;
-use tree::extent::{Span, after, whole};
+use tree::extent::{Span, after};
 use tree::node::{write_array, write_structure};
 use tree::part::{Value, find, value_at};
 use tree::words::{fits, shift};
@@ -69,67 +70,28 @@ pub fn copy_structure(
 pub fn copy_default(l: Filling, room: &mut [u32], at: usize) -> Result<usize, Unbuilt>
     ensures { CopiesDefault l room.old at result room.new }
 {
-    if l.places <= l.made {
-        return Err(Unbuilt::None);
-    }
-    let end = whole(&room[..], l.from).ok_or(Unbuilt::None)?;
+    let end = l.default_end(&room[..]).ok_or(Unbuilt::None)?;
     copy_structure(room, l.from, end, at)
-}
-
-// Where the default of the next place stands, once there are more values.
-#[tactic(auto, using(crate::proofs::Copying::laws))]
-pub fn moved_on(room: &[u32], from: usize, made: usize, more: usize) -> usize
-    ensures { MovesOn room.now from made more result }
-{
-    after(room, from, more.saturating_sub(made)).unwrap_or(from)
-}
-
-// The defaults of the places that are left.
-#[tactic(auto, using(crate::proofs::Copying::laws))]
-pub fn remaining(l: Filling) -> Filling
-    ensures { Remains l result }
-{
-    Filling {
-        from: l.from,
-        places: l.places.saturating_sub(l.made),
-        made: 0,
-        size: 0,
-    }
 }
 
 // Values at a place, so many times one behind the other.
 #[tactic(auto, using(crate::proofs::Copying::lists))]
-fn copy_list(
-    values: usize,
-    nodes: usize,
+pub fn push_copies(
+    values: Listed,
     times: usize,
     l: Filling,
     room: &mut [u32],
     at: usize,
 ) -> Result<Listed, Unbuilt>
-    ensures { CopiesList values nodes times l room.old at result room.new }
+    ensures { CopiesList values.made values.size times l room.old at result room.new }
 {
-    allowed(may_copy(times, l.places, l.made, l.size, values, nodes))?;
-    let end = repeat(room, at, nodes, times)?;
+    may_copy(times, l.places, l.made, l.size, values.made, values.size)?;
+    let end = repeat(room, at, values.size, times)?;
     Ok(Listed {
         end,
-        made: l.made + times * values,
-        size: l.size + times * nodes,
+        made: l.made + times * values.made,
+        size: l.size + times * values.size,
     })
-}
-
-#[tactic(auto, using(crate::proofs::Copying::lists))]
-pub fn push_copies(
-    b: Result<Listed, Unbuilt>,
-    times: usize,
-    l: Filling,
-    room: &mut [u32],
-    at: usize,
-) -> Result<Listed, Unbuilt>
-    ensures { PushesCopies b times l room.old at result room.new }
-{
-    let values = b?;
-    copy_list(values.made, values.size, times, l, room, at)
 }
 
 // A tree between two places becomes the next value of an array, where it may be added.
@@ -144,7 +106,7 @@ fn push_words(
     ensures { PushesWords begin end l room.old at result room.new }
 {
     let nodes = nodes_between(begin, end);
-    allowed(may_add(l.places, l.made, l.size, 1, nodes))?;
+    may_add(l.places, l.made, l.size, 1, nodes)?;
     let to = copy_words(room, begin, end, at).ok_or(Unbuilt::None)?;
     Ok(Listed {
         end: to,
@@ -158,10 +120,7 @@ fn push_words(
 fn next_default(l: Filling, room: &mut [u32], at: usize) -> Result<Listed, Unbuilt>
     ensures { NextDefault l room.old at result room.new }
 {
-    if l.places <= l.made {
-        return Err(Unbuilt::None);
-    }
-    let end = whole(&room[..], l.from).ok_or(Unbuilt::None)?;
+    let end = l.default_end(&room[..]).ok_or(Unbuilt::None)?;
     push_words(l.from, end, l, room, at)
 }
 
@@ -173,12 +132,7 @@ fn each_default(times: usize, l: Filling, room: &mut [u32], at: usize) -> Result
     let mut to = at;
     for _ in 0..times {
         let next = next_default(now, room, to)?;
-        now = Filling {
-            from: moved_on(&room[..], now.from, now.made, next.made),
-            places: l.places,
-            made: next.made,
-            size: next.size,
-        };
+        now = now.moved_on(&room[..], next);
         to = next.end;
     }
     Ok(Listed {
@@ -205,23 +159,22 @@ pub fn push_defaults(
 }
 
 // The leading defaults, which stand at the front, give way to values behind them.
-fn fill_over(
+pub fn fill_rest(
+    values: Listed,
     end: usize,
-    values: usize,
-    made: usize,
     places: usize,
     room: &mut [u32],
 ) -> Result<Listed, Unbuilt>
-    ensures { FillsOver end values made places room.old result room.new }
+    ensures { FillsOver end values.end values.made places room.old result room.new }
 {
-    let part = after(&room[..], 0, made).ok_or(Unbuilt::None)?;
+    let part = after(&room[..], 0, values.made).ok_or(Unbuilt::None)?;
     let front = Span {
         begin: 0,
         end: part,
     };
     let fresh = Span {
         begin: end,
-        end: values,
+        end: values.end,
     };
     let to = replace(room, Span { begin: 0, end }, front, fresh)?;
     let size = to / NODE_WORDS;
@@ -235,45 +188,20 @@ fn fill_over(
     })
 }
 
-pub fn fill_rest(
-    b: Result<Listed, Unbuilt>,
-    end: usize,
-    places: usize,
-    room: &mut [u32],
-) -> Result<Listed, Unbuilt>
-    ensures { FillsRest b end places room.old result room.new }
-{
-    let values = b?;
-    fill_over(end, values.end, values.made, places, room)
-}
-
 // An array's head over values that stand behind it, in the part that begins at `from`.
-fn put_head(
-    end: usize,
-    made: usize,
+pub fn array_head(
+    values: Listed,
     at: usize,
     from: usize,
     room: &mut [u32],
 ) -> Result<usize, Unbuilt>
-    ensures { PutsHead end made at from room.old result room.new }
+    ensures { PutsHead values.end values.made at from room.old result room.new }
 {
-    if !fits(room.len(), from, end) {
+    if !fits(room.len(), from, values.end) {
         return Err(Unbuilt::None);
     }
-    write_array(room, at, made.min(2047) as u32).ok_or(Unbuilt::None)?;
-    Ok(from + end)
-}
-
-pub fn array_head(
-    b: Result<Listed, Unbuilt>,
-    at: usize,
-    from: usize,
-    room: &mut [u32],
-) -> Result<usize, Unbuilt>
-    ensures { Heads b at from room.old result room.new }
-{
-    let values = b?;
-    put_head(values.end, values.made, at, from, room)
+    write_array(room, at, values.made.min(2047) as u32).ok_or(Unbuilt::None)?;
+    Ok(from + values.end)
 }
 
 // A field in a structure: where it stands, its name and its place.
@@ -287,20 +215,20 @@ pub struct Target {
 
 // The field of an entry's name in the structure at a place.
 #[tactic(auto, using(crate::proofs::Members::laws))]
-pub fn find_field(
+pub fn named_field(
     file: &File<'_>,
-    known: &[u32],
+    classes: &[u32],
     e: u32,
     place: Place,
     room: &[u32],
     at: usize,
 ) -> Option<Target>
-    requires { Classes file.now.source known.now × PlaceIn file.now.source place }
+    requires { Classes file.now.source classes.now × PlaceIn file.now.source place }
     ensures { Finds file.now.source place e room.now at result }
 {
     let name = file.source.word(ENTRIES, e, 1);
     let span = find(room, at, name)?;
-    let inner = field_place(file, known, place, name)?;
+    let inner = field_place(file, classes, place, name)?;
     Some(Target {
         begin: span.begin,
         end: span.end,
@@ -309,25 +237,39 @@ pub fn find_field(
     })
 }
 
-// A member's new value, which stands behind the structure, takes its place there.
+// The same, of what is known.
+pub fn find_field(
+    known: &Known<'_>,
+    e: u32,
+    place: Place,
+    room: &[u32],
+    at: usize,
+) -> Option<Target>
+    requires { PlaceIn known.now.file place }
+    ensures { Finds known.now.file place e room.now at result }
+{
+    named_field(known.file(), known.classes(), e, place, room, at)
+}
+
+// A member's new value, which stands behind the structure up to `to`, takes the field's place there.
 #[tactic(auto, using(crate::proofs::Members::laws))]
 pub fn put_member(
-    b: Result<usize, Unbuilt>,
+    field: Target,
     at: usize,
     end: usize,
-    begin: usize,
-    upto: usize,
-    name: u32,
+    to: usize,
     room: &mut [u32],
 ) -> Result<usize, Unbuilt>
-    ensures { PutsMember b at end begin upto name room.old result room.new }
+    ensures { PutsMember (Ok to) at end field.begin field.end field.name room.old result room.new }
 {
-    let to = b?;
-    let part = Span { begin, end: upto };
+    let part = Span {
+        begin: field.begin,
+        end: field.end,
+    };
     let fresh = Span {
         begin: end,
         end: to,
     };
-    let after = assign(room, Span { begin: at, end }, part, fresh, name)?;
+    let after = assign(room, Span { begin: at, end }, part, fresh, field.name)?;
     Ok(after)
 }

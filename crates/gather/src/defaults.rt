@@ -3,44 +3,28 @@
 
 ghost use Rattle.std.specs.Prelude.{◌+◌, ◌*◌};
 ghost use Rattle.places.specs.Inside.{PlaceIn};
-ghost use Rattle.build.specs.Built.{Ready};
 ghost use Rattle.gather.specs.Room.{RoomThere, shapes_deep};
-ghost use Rattle.gather.specs.Elements.{EndsWhole, TakesHead, ElementDefaults};
+ghost use Rattle.gather.specs.Elements.{ElementDefaults};
 
 use crate::answers::Listed;
 use build::built::Unbuilt;
 use build::defaults;
+use build::known::Known;
 use build::spread::flatten_values;
 use definition::layout::NODE_WORDS;
 use definition::records::{Place, Shape};
-use records::file::File;
 
-// The values of an array, moved to where its head was.
-fn take_head(b: Result<usize, Unbuilt>, room: &mut [u32], at: usize) -> Result<Listed, Unbuilt>
-    requires { EndsWhole b room.old at }
-    ensures { TakesHead b room.old at result room.new }
-{
-    let end = b?;
-    let v = flatten_values(room, at, end);
-    Ok(Listed {
-        end: at + v.nodes * NODE_WORDS,
-        made: v.count as usize,
-        size: v.nodes,
-    })
-}
-
-// Every element's default, listed flat.
+// Every element's default, moved to where the head of all was.
 pub fn element_defaults(
-    file: &File<'_>,
-    known: &[u32],
-    store: &[u32],
+    known: &Known<'_>,
     place: Place,
     room: &mut [u32],
     at: usize,
 ) -> Result<Listed, Unbuilt>
-    requires { Ready file.now.source known.now store.now × PlaceIn file.now.source place × RoomThere room.old at (12282 + 24576 * shapes_deep file.now.source) }
-    ensures { ElementDefaults file.now.source known.now store.now place room.old at result room.new }
+    requires { PlaceIn known.now.file place × RoomThere room.old at (12282 + 24576 * shapes_deep known.now.file) }
+    ensures { ElementDefaults known.now.file known.now.index known.now.store place room.old at result room.new }
 {
+    known.ready();
     let shape = place.shape;
     let Shape::Array {
         element,
@@ -50,6 +34,11 @@ pub fn element_defaults(
     else {
         return Err(Unbuilt::None);
     };
-    let b = defaults::element_defaults(file, known, store, place, element, first, count, room, at);
-    take_head(b, room, at)
+    let end = defaults::element_defaults(known, place, element, first, count, room, at)?;
+    let v = flatten_values(room, at, end);
+    Ok(Listed {
+        end: at + v.nodes * NODE_WORDS,
+        made: v.count as usize,
+        size: v.nodes,
+    })
 }

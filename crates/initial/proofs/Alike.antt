@@ -1,24 +1,25 @@
 -- Answers for one computation as answers for another. Assumes nothing.
 use mathlib.Core.Path.{◌≡◌, refl, ap}
 use mathlib.Core.List.{List}
-use Prim.Native.Nat.{ℕ}
+use Prim.Native.Nat.{ℕ, ◌+◌, ◌≤◌}
+use lib.ListN.{length}
+use Rattle.definition.specs.declared.records.Constant.{Constant}
 use Rattle.definition.specs.declared.records.Place.{Place}
+use Rattle.definition.specs.Scalar.{as_tree}
 use Rattle.definition.specs.Tree.{flatten}
-use Rattle.definition.specs.Ask.{Result, ok, none, Outcome, Ask, done, bind, ◌>>=◌, nothing}
-use Rattle.laws.specs.Steps.{peek-nothing}
-use Rattle.std.specs.Prelude.{Err}
+use Rattle.definition.specs.Ask.{Result, ok, none, Outcome, Ask, done, result_of, bind, ◌>>=◌, nothing}
+use Rattle.laws.specs.Steps.{peek-done, peek-nothing}
+use Rattle.std.specs.Prelude.{Err, Option}
 use Rattle.build.specs.declared.built.Unbuilt.TheVariants as unbuilt
 use Rattle.build.specs.Built.{Built, Builds}
-use Rattle.initial.specs.Stated.{Lays}
+use Rattle.build.specs.Leaves.{PutsLeaf}
 
-module _ {A : Type 0} {f known store : List ℕ} {words : A → List ℕ} {at : ℕ} {old : List ℕ} {r : Built} {new : List ℕ} where
-  pub same : (m n : Ask (Result A)) → n ≡ m → Builds f known store words m at old r new → Builds f known store words n at old r new
-  same m n e h = record { gives = λ M x. rw e (h.gives M x); kept = h.kept }
+-- a value without parts
+pub leaf-builds : {f index store : List ℕ} {at : ℕ} {old : List ℕ} {r : Built} {new : List ℕ} {v : Option Constant} (m : Ask Outcome) → m ≡ done (as_tree (result_of v)) → at + 6 ≤ length old → PutsLeaf v at old r new
+    → Builds f index store flatten m at old r new
+leaf-builds {v = v} m e h x = record { gives = λ M y. rw (e, peek-done M (as_tree (result_of v))) (x.gives h); kept = x.kept }
 
-pub laid : {f known store : List ℕ} {at : ℕ} {old : List ℕ} {r : Built} {new : List ℕ} (m n : Ask Outcome) → n ≡ m → Lays m at old r new → Builds f known store flatten n at old r new
-laid m n e h = record { gives = λ M x. rw e (h.gives M); kept = h.kept }
-
-pub no_value_lem : {f known store : List ℕ} {at : ℕ} {old : List ℕ} (m : Ask Outcome) → m ≡ nothing → Builds f known store flatten m at old (Err unbuilt.None) old
+pub no_value_lem : {f index store : List ℕ} {at : ℕ} {old : List ℕ} (m : Ask Outcome) → m ≡ nothing → Builds f index store flatten m at old (Err unbuilt.None) old
 no_value_lem m e = record { gives = λ M x. rw (e, peek-nothing M) (record { says = refl; stands = tt }); kept = refl }
 
 -- a place that is found, or not

@@ -1,15 +1,17 @@
 -- The parts of initializers and declarations that building functions form one by one.
-use Rattle.std.specs.Prelude.{◌≡◌, Bool, true, List, ℕ, zero, suc, ◌+◌, ◌-◌, ◌*◌, ◌^◌, ◌≤◌, ◌<◌, eqb, take, Ok}
+use Rattle.std.specs.Prelude.{◌≡◌, Bool, true, List, ℕ, zero, suc, ◌+◌, ◌-◌, ◌*◌, ◌^◌, ◌≤◌, ◌<◌, eqb, take, Ok, Option}
+use Rattle.definition.specs.declared.records.Constant.{Constant}
 use Rattle.definition.specs.declared.records.Place.{Place}
 use Rattle.definition.specs.Base.{pick, choose, on_link, inline}
 use Rattle.definition.specs.Layout.{word, count, elements, variables, initializers, entries, constants}
 use Rattle.definition.specs.Records.{initializer_at, named_type}
 use Rattle.definition.specs.Syntax.{inits_at}
 use Rattle.definition.specs.Tree.{Tree, Trees, tnil, flatten, flatten_all, tree_words}
-use Rattle.definition.specs.Ask.{Result, Outcome, Ask, done, ◌>>=◌, give, nothing, type_default, and_more}
+use Rattle.definition.specs.Ask.{Result, Outcome, Ask, done, result_of, ◌>>=◌, give, nothing, type_default, and_more}
 use Rattle.definition.specs.Places.{field_place}
-use Rattle.definition.specs.Parts.{if_stated, enumerated_as, reference_as, field, is_instance}
-use Rattle.definition.specs.Starting.{applied, array_of, constant_as, initializer, declaration, over_base, implicit, alias_default_by}
+use Rattle.definition.specs.Parts.{if_stated, field, is_instance}
+use Rattle.definition.specs.Scalar.{as_tree}
+use Rattle.definition.specs.Starting.{applied, array_of, initializer, declaration, over_base, implicit, alias_default_by}
 use Rattle.definition.specs.Resolve.{Memo}
 use Rattle.definition.specs.Peek.{Peek, peek}
 use Rattle.laws.specs.Links.{Link, Naming}
@@ -18,9 +20,7 @@ use Rattle.laws.specs.Values.{Small}
 use Rattle.laws.specs.Pointed.{Run, InArray, InMembers}
 use Rattle.laws.specs.Peeking.{on_got}
 use Rattle.tree.specs.Words.{Stand}
-use Rattle.initial.specs.declared.values.Stated.{Stated}
-use Rattle.initial.specs.declared.values.Stated.TheVariants as stated
-use Rattle.build.specs.Built.{Built, Gives, Memory}
+use Rattle.build.specs.Built.{Built, Gives, Memory, Builds}
 
 -- ---- values that no memo is needed for
 pub record Lays (m : Ask Outcome) (at : ℕ) (old : List ℕ) (r : Built) (new : List ℕ) : Type 0 where
@@ -28,15 +28,9 @@ pub record Lays (m : Ask Outcome) (at : ℕ) (old : List ℕ) (r : Built) (new :
   pub kept : take at new ≡ take at old
 
 -- ---- what is stated, or else another default
--- what a value's link leads to
-unfoldable pub stated_as : List ℕ → Stated → Place → ℕ → Ask Outcome
-stated_as f stated.Constant place = constant_as f place
-stated_as f stated.Enumerated place = enumerated_as f place
-stated_as f stated.Reference place = reference_as f
-stated_as f stated.Nothing place = λ c. nothing
-
-unfoldable pub stated_or : List ℕ → Stated → Place → ℕ → Ask Outcome → Ask Outcome
-stated_or f what place value other = if_stated value (λ u. other) (stated_as f what place)
+-- what a link states by a value without parts, whatever it is that answers give for what the link leads to
+pub record StatedBy (answers : ℕ → Option Constant → Type 0) (f index store : List ℕ) (link : ℕ) (other : Ask Outcome) (at : ℕ) (old : List ℕ) (r : Built) (new : List ℕ) : Type 0 where
+  pub is : (m : ℕ → Ask Outcome) → ((n : ℕ) (v : Option Constant) → link ≡ suc n → answers n v → m n ≡ done (as_tree (result_of v))) → Builds f index store flatten (if_stated link (λ u. other) m) at old r new
 
 unfoldable pub array_or : List ℕ → Place → ℕ → ℕ → Ask Outcome → Ask Outcome
 array_or f place first many other = choose (eqb many 0) (λ u. other) (λ u. array_of f place first many)
@@ -45,18 +39,9 @@ unfoldable pub members_over : List ℕ → Place → ℕ → ℕ → Ask Outcome
 members_over f place first many base = base >>= applied f place (inits_at f first many)
 
 -- ---- what the file has
--- a constant that is stated is one of the file: behind a link, and as a number
-abbrev pub IfConstant : Stated → Type 0 → Type 0
-IfConstant stated.Constant P = P
-IfConstant stated.Enumerated P = Unit {0}
-IfConstant stated.Reference P = Unit {0}
-IfConstant stated.Nothing P = Unit {0}
-
-pub record ValueIn (f : List ℕ) (what : Stated) (value : ℕ) : Type 0 where
-  pub constant : IfConstant what (Link (λ c. c < count f constants) value)
-
-pub record StatedIn (f : List ℕ) (what : Stated) (n : ℕ) : Type 0 where
-  pub constant : IfConstant what (n < count f constants)
+-- a constant that is stated is one of the file
+pub record ConstantIn (f : List ℕ) (value : ℕ) : Type 0 where
+  pub constant : Link (λ c. c < count f constants) value
 
 pub record ArrayIn (f : List ℕ) (first many : ℕ) : Type 0 where
   pub inside : first + many ≤ count f entries
@@ -73,8 +58,8 @@ pub record SmallAt (s : List ℕ) (at end : ℕ) : Type 0 where
   pub stands : Stand s at (flatten tree) end
 
 -- a tree gives way to what a member list makes of it
-pub record Applies (f known store : List ℕ) (place : Place) (first many at end : ℕ) (old : List ℕ) (r : Built) (new : List ℕ) : Type 0 where
-  pub gives : (t : Tree) → Small t → Stand old at (flatten t) end → (M : Memo) → Memory f known store M → Gives flatten (peek M (applied f place (inits_at f first many) t)) at r new
+pub record Applies (f index store : List ℕ) (place : Place) (first many at end : ℕ) (old : List ℕ) (r : Built) (new : List ℕ) : Type 0 where
+  pub gives : (t : Tree) → Small t → Stand old at (flatten t) end → (M : Memo) → Memory f index store M → Gives flatten (peek M (applied f place (inits_at f first many) t)) at r new
   pub kept : take at new ≡ take at old
 
 -- ---- names of types
@@ -118,8 +103,8 @@ parts_from f place section k (suc n) made size =
     (λ u. parts_from f place section (suc k) n made size)
 
 -- a part at `to`, under a head at `at`
-pub record BuildsPart (f known store : List ℕ) (place : Place) (section k at to : ℕ) (old : List ℕ) (r : Built) (new : List ℕ) : Type 0 where
-  pub gives : (size : ℕ) → to ≡ at + 6 + 6 * size → (M : Memo) → Memory f known store M → Gives flatten_all (peek M (part_ask f place section k size)) to r new
+pub record BuildsPart (f index store : List ℕ) (place : Place) (section k at to : ℕ) (old : List ℕ) (r : Built) (new : List ℕ) : Type 0 where
+  pub gives : (size : ℕ) → to ≡ at + 6 + 6 * size → (M : Memo) → Memory f index store M → Gives flatten_all (peek M (part_ask f place section k size)) to r new
   pub ends : (e : ℕ) → r ≡ Ok e → (to ≤ e) × (e ≤ at + tree_words)
   pub kept : take to new ≡ take to old
 

@@ -1,84 +1,79 @@
 // What an initializer gives a place (`initializer`).
-#![tactic(auto, using(crate::proofs::start::Laws::laws), unfolding(definition::specs::Defaults::initializer, definition::specs::Defaults::initializer_by, crate::specs::Stated::stated_or, crate::specs::Stated::stated_as, crate::specs::Stated::array_or, crate::specs::Stated::members_over, crate::specs::Rooms::init_levels, crate::specs::Rooms::init_levels_by))]
+#![tactic(auto, using(crate::proofs::start::Laws::laws), unfolding(definition::specs::Defaults::initializer, definition::specs::Defaults::initializer_by, crate::specs::Stated::array_or, crate::specs::Stated::members_over, crate::specs::Rooms::init_levels, crate::specs::Rooms::init_levels_by))]
 
 ghost use Rattle.std.specs.Prelude.{◌+◌, ◌*◌, ◌≤◌, ◌<◌, length};
 ghost use Rattle.definition.specs.Layout.{count, initializers};
 ghost use Rattle.definition.specs.Starting as Defaults;
 ghost use Rattle.definition.specs.Tree.{flatten, tree_words};
 ghost use Rattle.places.specs.Inside.{PlaceIn};
-ghost use Rattle.build.specs.Built.{Ready, Builds};
+ghost use Rattle.build.specs.Built.{Builds};
 ghost use Rattle.initial.specs.Rooms.{init_levels};
 
-use crate::stated::{array_or_default, members_over_default, stated_or_default};
-use crate::values::Stated;
+use crate::given::apply_members;
+use crate::stated::stated_or_default;
+use crate::values::{enumerated_entry, reference_leaf};
 use build::built::Unbuilt;
 use build::defaults::default_of;
+use build::known::Known;
 use definition::records::{Initializer, Place};
-use records::file::File;
+use entries::entries::array;
 
-// What an initializer gives a place.
+// What an initializer gives a place. A late resolved one states a constant that gives none.
 pub fn initializer(
-    file: &File<'_>,
-    known: &[u32],
-    store: &[u32],
+    known: &Known<'_>,
     place: Place,
     i: u32,
     room: &mut [u32],
     at: usize,
 ) -> Result<usize, Unbuilt>
-    requires { Ready file.now.source known.now store.now × PlaceIn file.now.source place × (i < count file.now.source initializers) × (at + init_levels file.now.source i place * tree_words ≤ length room.old) }
-    ensures { Builds file.now.source known.now store.now flatten (Defaults.initializer file.now.source i place) at room.old result room.new }
+    requires { PlaceIn known.now.file place × (i < count known.now.file initializers) × (at + init_levels known.now.file i place * tree_words ≤ length room.old) }
+    ensures { Builds known.now.file known.now.index known.now.store flatten (Defaults.initializer known.now.file i place) at room.old result room.new }
 {
-    let v = file.source.initializer(i);
+    let v = known.initializer(i);
     match v {
-        Initializer::Nothing => default_of(file, known, store, place, room, at),
+        Initializer::Nothing => default_of(known, place, room, at),
         Initializer::Subrange { value }
         | Initializer::Simple { value }
-        | Initializer::String { value, .. } => stated_or_default(
-            file,
-            known,
-            store,
-            place,
-            Stated::Constant,
-            value,
-            room,
-            at,
-        ),
-        Initializer::EnumeratedValues { value } | Initializer::EnumeratedType { value } =>
+        | Initializer::String { value, .. } => {
             stated_or_default(
-                file,
                 known,
-                store,
                 place,
-                Stated::Enumerated,
                 value,
                 room,
                 at,
-            ),
-        Initializer::FunctionBlock { first, count } | Initializer::Structure { first, count } =>
-            members_over_default(file, known, store, place, first, count, room, at),
-        Initializer::Array { first, count } => array_or_default(
-            file, known, store, place, first, count, room, at,
-        ),
-        Initializer::Reference { value } => stated_or_default(
-            file,
-            known,
-            store,
-            place,
-            Stated::Reference,
-            value,
-            room,
-            at,
-        ),
+                |c| known.constant_value(place.shape, c),
+            )
+        }
+        Initializer::EnumeratedValues { value } | Initializer::EnumeratedType { value } => {
+            stated_or_default(
+                known,
+                place,
+                value,
+                room,
+                at,
+                |e| enumerated_entry(known, place.shape, e),
+            )
+        }
+        Initializer::FunctionBlock { first, count } | Initializer::Structure { first, count } => {
+            let end = default_of(known, place, room, at)?;
+            apply_members(known, place, first, count, room, at, end)
+        }
+        Initializer::Array { first, count } => {
+            if count == 0 {
+                return default_of(known, place, room, at);
+            }
+            array(known, place, first, count, room, at)
+        }
+        Initializer::Reference { value } => {
+            stated_or_default(known, place, value, room, at, |x| reference_leaf(known, x))
+        }
         Initializer::LateResolved { value } => stated_or_default(
-            file,
             known,
-            store,
             place,
-            Stated::Nothing,
             value,
             room,
             at,
+            |_| None,
         ),
         _ => Err(Unbuilt::None),
     }

@@ -15,7 +15,9 @@ use Rattle.laws.specs.Cases.{both}
 use Rattle.tree.specs.Words.{WroteCopy}
 use Rattle.tree.proofs.Writes.{writes}
 use Rattle.tree.proofs.Standing.{wrote-so-is}
-use Rattle.lines.specs.Append.{most_words, room, HeadRoom, Headed, Appends, AppendsTree}
+use Rattle.lines.specs.Append.{most_words, room, HeadRoom, Appends, AppendsState, AppendsTree}
+use Rattle.lines.specs.declared.append.Lines.{Lines}
+use Rattle.lines.specs.Lines.{Headed, ends}
 use Rattle.lines.proofs.Copying.{wrote-not-is}
 
 -- ---- room
@@ -78,9 +80,13 @@ module _ {test : Bool} (src : List ℕ) (n : ℕ) (index store : List ℕ) (end 
   line-full f = let k : test ≡ false = sym e ∙ f in record { says = rw k; marks = rw k; writes = rw k }
 
 module _ (state : ℕ) (index store : List ℕ) (end t : ℕ) {b : Bool} (e : b ≡ room (length store) end 0) where
-  pub state-there : b ≡ true → {index' store' : List ℕ} → Headed state 0 index store end t index' store'
-      → Appends (room (length store) end 0) (0 ∷ state ∷ 0 ∷ []) 3 index store end t (Some (end + 3)) index' store'
-  state-there f h = let k : room (length store) end 0 ≡ true = sym e ∙ f in record { says = rw k; marks = rw k h.marks; writes = rw k h.writes }
+  pub state-full : b ≡ false → AppendsState state index store end t None index store
+  state-full f = line-full (0 ∷ state ∷ 0 ∷ []) 3 index store end t e f
+
+module _ (state t : ℕ) {old : Lines} {b : Bool} (e : b ≡ room (length old.store.now) old.end 0) where
+  pub state-there : b ≡ true → {new : Lines} → Headed state 0 t old new → {x : ℕ} → x ≡ old.end + 3
+      → AppendsState state old.index.now old.store.now old.end t (Some x) new.index.now new.store.now
+  state-there f h q = let k : room (length old.store.now) old.end 0 ≡ true = sym e ∙ f in record { says = rw k (ap Some q); marks = rw k h.marks; writes = rw k h.writes }
 
 module _ (from : List ℕ) (a nodes : ℕ) (index store : List ℕ) (end t : ℕ) {b : Bool} (e : b ≡ room (length store) end nodes) where
   pub tree-full : b ≡ false → AppendsTree from a nodes index store end t None index store
@@ -104,17 +110,17 @@ module _ (from : List ℕ) (a nodes : ℕ) (index store : List ℕ) (end t : ℕ
         let k : leb (a + nodes * 6) (length from) ≡ false = and_first (leb (a + nodes * 6) (length from)) (leb (end + 3 + nodes * 6) (length store)) z.0 l in
         rw (roomy, k) (record { says = refl; marks = refl; writes = z.1 })
 
-    pub tree-there : {end' : ℕ} → x ≡ Some end' → {index' store' : List ℕ} → Headed 0 nodes index mid end t index' store'
-        → AppendsTree from a nodes index store end t (Some end') index' store'
+    pub tree-there : {end' : ℕ} → x ≡ Some end' → {old new : Lines} → Headed 0 nodes t old new → old.index.now ≡ index → old.store.now ≡ mid → old.end ≡ end
+        → AppendsTree from a nodes index store end t (Some end') new.index.now new.store.now
     unfolding copy_test
-    tree-there {end'} i h =
+    tree-there {end'} i h q u v =
         let z = wrote-so-is copy_test w i in
         let k = (both (leb (a + nodes * 6) (length from)) (leb (end + 3 + nodes * 6) (length store)) z.0).0 in
         let m : end' ≡ end + (3 + nodes * 6) = omega (arith, z.1) in
         rw (roomy, k) (record {
           says = ap Some m;
-          marks = h.marks;
-          writes = h.writes ∙ ap (λ (l : List ℕ). paste l end (0 ∷ 0 ∷ nodes ∷ []) 3) z.2 ∙ head-before store end 0 0 nodes (drop a from) (nodes * 6) (omega (arith, inside));
+          marks = rw (q, v) at h.marks;
+          writes = rw (u, v) at h.writes ∙ ap (λ (l : List ℕ). paste l end (0 ∷ 0 ∷ nodes ∷ []) 3) z.2 ∙ head-before store end 0 0 nodes (drop a from) (nodes * 6) (omega (arith, inside));
         })
 
-pub ruleset appends = (writes, head-out, room-is, room-head, room-kept, room-counts, count_fits, set_past, line-full, state-there, tree-full, tree-not, tree-there)
+pub ruleset appends = (writes, head-out, room-is, room-head, room-kept, room-counts, count_fits, set_past, state-full, state-there, tree-full, tree-not, tree-there)

@@ -3,3 +3,4 @@ pub mod Copying
 pub mod Appending
 pub mod Memories
 pub mod Meanings
+pub mod Lending

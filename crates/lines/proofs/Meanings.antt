@@ -33,7 +33,7 @@ use Rattle.lines.specs.Memory.{LineAt, Holds, Remembers, TreeThere, Looks, CopyT
 use Rattle.lines.proofs.Looking.{word-unknown, word_none, word_line, up_is}
 
 -- ---- a line
-stand-word : {s : List ℕ} {p : ℕ} {ws : List ℕ} {end : ℕ} → Stand s p ws end → (i : ℕ) → get_or s (p + i) 0 ≡ get_or (ws ++ drop end s) i 0
+pub stand-word : {s : List ℕ} {p : ℕ} {ws : List ℕ} {end : ℕ} → Stand s p ws end → (i : ℕ) → get_or s (p + i) 0 ≡ get_or (ws ++ drop end s) i 0
 stand-word {s} {p} {ws} {end} x i = sym (get_or-drop p s i 0) ∙ ap (λ (l : List ℕ). get_or l i 0) (stand-rest x)
 
 -- a line whose state and count are known

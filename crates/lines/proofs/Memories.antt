@@ -1,5 +1,5 @@
 -- An index and a store that stand for a memo, after each function that writes them. Assumes nothing.
-use mathlib.Core.Path.{◌≡◌, refl, ap, sym, subst}
+use mathlib.Core.Path.{◌≡◌, refl, ap, sym, subst, ◌∙◌}
 use mathlib.Core.Bool.{Bool, true, false, ◌&&◌}
 use mathlib.Core.Logic.{inl, inr}
 use mathlib.Core.List.{List, [], ◌∷◌}
@@ -39,6 +39,11 @@ remembers-empty words store end n h k =
   where
     go : (t : ℕ) → t < n → Holds (get_or (replicate (length words) 0) t 0) store end (at (empty n) t)
     go t l = rw (empty-at n t l) (get_or-replicate (length words) t 0 0 (omega arith))
+
+-- words that are cleared, of which the length alone is left
+pub cleared-same : {new : List ℕ} (mid old : List ℕ) → new ≡ cleared mid → length mid ≡ length old → new ≡ cleared old
+unfolding cleared
+cleared-same mid old e l = e ∙ ap (λ (n : ℕ). replicate n 0) l
 
 -- ---- a word of the index stands for the same where the lines stand in another store, or within other words
 holds_kept : {store : List ℕ} {end : ℕ} (store' : List ℕ) (end' : ℕ) → ((p : ℕ) (o : Outcome) → LineAt store end p o → LineAt store' end' p o)

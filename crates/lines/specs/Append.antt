@@ -16,11 +16,6 @@ pub record HeadRoom (length end : ℕ) : Type 0 where
   pub inside : end + 3 ≤ length
   pub counted : end + 3 ≤ most_words
 
--- rank 0, state and count are written at `end`, and t's word leads there
-pub record Headed (state count : ℕ) (index store : List ℕ) (end t : ℕ) (index' store' : List ℕ) : Type 0 where
-  pub marks : index' ≡ set index t (end + 2)
-  pub writes : store' ≡ paste store end (0 ∷ state ∷ count ∷ []) 3
-
 -- where a test holds, the first n words of `src` are the line of t, and the lines end behind it; else nothing is written
 pub record Appends (test : Bool) (src : List ℕ) (n : ℕ) (index store : List ℕ) (end t : ℕ) (r : Option ℕ) (index' store' : List ℕ) : Type 0 where
   pub says : r ≡ pick test (Some (end + n)) None

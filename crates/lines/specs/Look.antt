@@ -17,6 +17,12 @@ there at nodes = Ok (record { at = at; nodes = nodes })
 unfoldable pub state_of : ℕ → ℕ → ℕ → Remembered
 state_of state at count = pick (eqb state 0) (there at count) (pick (eqb state 2) (Err TooLarge) (Err None))
 
+-- and that of a line without a tree: what is unknown reads as none
+abbrev pub state_word : Absent → ℕ
+state_word Unknown = 1
+state_word None = 1
+state_word TooLarge = 2
+
 -- rank, state and count, and the nodes behind them
 unfoldable pub line_of : List ℕ → ℕ → Remembered
 line_of store at = pick (leb (at + 3) (length store)) (state_of (get_or store (at + 1) 0) (at + 3) (get_or store (at + 2) 0)) (Err None)

@@ -1,16 +1,29 @@
 // Lines appended to a store.
 #![tactic(auto, using(crate::proofs::Appending::appends))]
 
-ghost use Rattle.std.specs.Prelude.{◌≡◌, [], ◌∷◌, ◌+◌, ◌*◌, ◌≤◌, leb, length, set};
+ghost use Rattle.std.specs.Prelude.{◌≡◌, [], ◌∷◌, ◌+◌, ◌*◌, ◌/◌, ◌≤◌, ◌<◌, eqb, leb, length, get_or, set};
 ghost use Rattle.std.proofs.Math.Seq.{paste};
-ghost use Rattle.lines.specs.Append.{room, HeadRoom, Headed, AppendsState, AppendsTree};
+ghost use Rattle.definition.specs.Answers.{cleared};
+ghost use Rattle.lines.specs.Append.{room, HeadRoom, AppendsState, AppendsTree};
+ghost use Rattle.lines.specs.Lines.{Lends, Headed, ends};
+ghost use Rattle.lines.specs.Look.{state_word};
 
+use crate::clear::clear;
 use crate::copy::copy_nodes;
-use crate::look::HEAD_WORDS;
+use crate::look::{Absent, HEAD_WORDS};
+use definition::layout::NODE_WORDS;
 use tree::words::{fits, nodes_fit};
 
 // No store has more words: a place in it fits a word of the index.
 pub const MOST_WORDS: usize = 268435456;
+
+// The lines of types, one behind the other: they fill the store up to `end`, and a type's word of the index leads to its line.
+#[derive(Drop)]
+pub struct Lines<'a> {
+    pub index: &'a mut [u32],
+    pub store: &'a mut [u32],
+    pub end: usize,
+}
 
 // Whether a line of so many nodes lies within a length.
 fn line_fits(length: usize, end: usize, nodes: usize) -> bool
@@ -44,69 +57,74 @@ fn mark(index: &mut [u32], t: u32, word: u32)
     }
 }
 
-// A type is in progress.
-pub fn begin(index: &mut [u32], t: u32)
-    ensures { index.new ≡ set index.old t 1 }
-{
-    mark(index, t, 1);
-}
-
-// The head of a type's line, to which its word of the index leads.
-fn put_head(index: &mut [u32], store: &mut [u32], end: usize, t: u32, state: u32, count: u32)
-    requires { HeadRoom (length store.old) end }
-    ensures { Headed state count index.old store.old end t index.new store.new }
-{
-    write_head(store, end, state, count);
-    mark(index, t, end as u32 + 2);
-}
-
-// A line without nodes, and where the lines end then. Nothing is written where the store has no room for it.
-fn remember_state(
-    index: &mut [u32],
-    store: &mut [u32],
-    end: usize,
-    t: u32,
-    state: u32,
-) -> Option<usize>
-    ensures { AppendsState state index.old store.old end t result index.new store.new }
-{
-    if !has_room(store.len(), end, 0) {
-        return None;
+impl Lines<'_> {
+    // Whether nothing is known of a type.
+    pub fn is_unknown(&self, t: u32) -> bool
+        requires { t < length self.now.index.now }
+        ensures { result ≡ eqb (get_or self.now.index.now t 0) 0 }
+    {
+        self.index[t as usize] == 0
     }
-    put_head(index, store, end, t, state, 0);
-    Some(end + HEAD_WORDS)
-}
 
-// A type has none.
-pub fn remember_none(index: &mut [u32], store: &mut [u32], end: usize, t: u32) -> Option<usize>
-    ensures { AppendsState 1 index.old store.old end t result index.new store.new }
-{
-    remember_state(index, store, end, t, 1)
-}
-
-// A type's tree is too large.
-pub fn remember_large(index: &mut [u32], store: &mut [u32], end: usize, t: u32) -> Option<usize>
-    ensures { AppendsState 2 index.old store.old end t result index.new store.new }
-{
-    remember_state(index, store, end, t, 2)
-}
-
-// A type's tree is the one of so many nodes at a place of another slice.
-pub fn remember_tree(
-    index: &mut [u32],
-    store: &mut [u32],
-    end: usize,
-    t: u32,
-    from: &[u32],
-    a: usize,
-    nodes: usize,
-) -> Option<usize>
-    ensures { AppendsTree from.now a nodes index.old store.old end t result index.new store.new }
-{
-    if !has_room(store.len(), end, nodes) {
-        return None;
+    // Nothing is known of any type.
+    pub fn clear(&mut self)
+        ensures same { Lends self.old self.new }
+        ensures index { self.new.index.now ≡ cleared self.old.index.now }
+        ensures store { self.new.store.now ≡ self.old.store.now }
+        ensures end { self.new.end ≡ 0 }
+    {
+        clear(self.index);
+        self.end = 0;
     }
-    let stop = copy_nodes(from, a, nodes, store, end + HEAD_WORDS)?;
-    put_head(index, store, end, t, 0, nodes as u32);
-    Some(stop)
+
+    // A type is in progress.
+    pub fn begin(&mut self, t: u32)
+        ensures same { Lends self.old self.new }
+        ensures index { self.new.index.now ≡ set self.old.index.now t 1 }
+        ensures store { self.new.store.now ≡ self.old.store.now }
+        ensures end { self.new.end ≡ self.old.end }
+    {
+        mark(self.index, t, 1);
+    }
+
+    // The head of a type's line, to which its word of the index leads.
+    fn put_head(&mut self, t: u32, state: u32, count: u32)
+        requires { HeadRoom (length self.old.store.now) self.old.end }
+        ensures same { Lends self.old self.new }
+        ensures headed { Headed state count t self.old self.new }
+    {
+        let end = self.end;
+        write_head(self.store, end, state, count);
+        mark(self.index, t, end as u32 + 2);
+    }
+
+    // A line of why a type has no tree. Nothing is written where the store has no room for it.
+    pub fn remember_absent(&mut self, t: u32, why: Absent) -> Option<()>
+        ensures same { Lends self.old self.new }
+        ensures appends { AppendsState (state_word why) self.old.index.now self.old.store.now self.old.end t (ends result self.new.end) self.new.index.now self.new.store.now }
+        ensures end { result ≡ None → self.new.end ≡ self.old.end }
+    {
+        if !has_room(self.store.len(), self.end, 0) {
+            return None;
+        }
+        self.put_head(t, why.state(), 0);
+        self.end += HEAD_WORDS;
+        Some(())
+    }
+
+    // A line of a type's tree, which is the nodes of another slice.
+    pub fn remember_tree(&mut self, t: u32, nodes: &[u32]) -> Option<()>
+        ensures same { Lends self.old self.new }
+        ensures appends { AppendsTree nodes.now 0 (length nodes.now / 6) self.old.index.now self.old.store.now self.old.end t (ends result self.new.end) self.new.index.now self.new.store.now }
+        ensures end { result ≡ None → self.new.end ≡ self.old.end }
+    {
+        let count = nodes.len() / NODE_WORDS;
+        if !has_room(self.store.len(), self.end, count) {
+            return None;
+        }
+        let stop = copy_nodes(nodes, 0, count, self.store, self.end + HEAD_WORDS)?;
+        self.put_head(t, 0, count as u32);
+        self.end = stop;
+        Some(())
+    }
 }

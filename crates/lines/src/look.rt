@@ -2,7 +2,7 @@
 #![tactic(auto, using(crate::proofs::Looking::reads))]
 
 ghost use Rattle.std.specs.Prelude.{◌≡◌, ◌+◌, ◌≤◌, length, get_or};
-ghost use Rattle.lines.specs.Look.{state_of, line_of, word_of, remembered_of};
+ghost use Rattle.lines.specs.Look.{state_of, state_word, line_of, word_of, remembered_of};
 
 use tree::words::fits;
 
@@ -22,6 +22,19 @@ pub enum Absent {
     Unknown,
     None,
     TooLarge,
+}
+
+impl Absent {
+    // The state of a line without a tree.
+    pub fn state(self) -> u32
+        ensures { result ≡ state_word self }
+    {
+        match self {
+            Absent::Unknown => 1,
+            Absent::None => 1,
+            Absent::TooLarge => 2,
+        }
+    }
 }
 
 // A line's state, with its count and the place behind its head. A state that no line has reads as none.
@@ -71,10 +84,6 @@ fn entry(store: &[u32], word: u32) -> Result<Tree, Absent>
 pub fn look_up(index: &[u32], store: &[u32], t: u32) -> Result<Tree, Absent>
     ensures { result ≡ remembered_of index.now store.now t }
 {
-    let i = t as usize;
-    if i < index.len() {
-        entry(store, index[i])
-    } else {
-        Err(Absent::None)
-    }
+    let word = index.get(t as usize).ok_or(Absent::None)?;
+    entry(store, *word)
 }

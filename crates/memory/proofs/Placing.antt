@@ -2,7 +2,7 @@
 use mathlib.Core.Path.{◌≡◌, refl, ap, sym, subst, ◌∙◌}
 use mathlib.Core.Bool.{Bool, true, false, ◌||◌}
 use mathlib.Core.List.{List, ◌++◌}
-use Prim.Native.Nat.{ℕ, ◌*◌, ◌≤◌, ◌<◌}
+use Prim.Native.Nat.{ℕ, zero, suc, ◌+◌, ◌*◌, ◌≤◌, ◌<◌}
 use native.Mathlib.Omega.{arith}
 use lib.Dec.{eqb}
 use lib.ListN.{length}
@@ -27,13 +27,13 @@ use Rattle.shapes.specs.Classes.{Classes, classes_of, classes-at}
 use Rattle.tree.specs.Words.{Stand}
 use Rattle.definition.specs.Ask.{result_of}
 use Rattle.places.specs.Inside.{PlaceIn, variable-found}
-use Rattle.memory_definition.specs.Cells.{place_or, cells, variable_cells}
+use Rattle.memory_definition.specs.Cells.{Cell, place_or, cells, variable_cells}
 use Rattle.memory_laws.specs.InWords.{cells_from}
 use Rattle.memory_laws.specs.CellShapes.{variable-shaped}
 use Rattle.memory_laws.specs.Placed.{PlacedAll, placed-all}
 use Rattle.memory_layout.specs.Laid.{Whole}
 use Rattle.memory_layout.specs.Laid as layout
-use Rattle.memory.specs.Trees.{TreeIn, InWords, Laid}
+use Rattle.memory.specs.Trees.{TreeIn, InWords, Few, Laid}
 use Rattle.std.specs.Prelude.{None, Option, Some}
 
 -- ---- a variable without a place has no tree
@@ -97,6 +97,16 @@ module _ {f : List ℕ} {v : ℕ} {room : List ℕ} {many : ℕ} (h : TreeIn f v
             let z : ◌≡◌ {A = Outcome} none (ok t) = sym (no_place f v w) ∙ o in
             let y : ◌≡◌ {A = ℕ} 0 1 = cc in
             absurd (omega arith)
+
+-- ---- the cells of what is laid
+cells-many : (room beside : List ℕ) (at n : ℕ) → length (cells_from room beside at n) ≡ n
+unfolding cells_from
+cells-many room beside at zero = refl
+cells-many room beside at (suc n) = ap suc (cells-many room beside (at + 6) n)
+
+pub few-cells : {f : List ℕ} {v : ℕ} {room shapes : List ℕ} {n : ℕ} → Laid f v room shapes n → {cs : List Cell} → cs ≡ cells_from room shapes 0 n → Few f cs
+few-cells {f} {v} {room} {shapes} {n} l e =
+    record { placed = subst (PlacedAll f) (sym e) l.words.placed.all; few = omega (arith, l.words.few, ap length e, cells-many room shapes 0 n) }
 
 -- ---- what `lay_out` asks
 pub classed : (f rest : List ℕ) {classes : List ℕ} → classes ≡ classes_of f ++ rest → Classes f classes

@@ -2,7 +2,7 @@
 use mathlib.Core.Path.{◌≡◌, refl, ap, sym, subst, ◌∙◌}
 use mathlib.Core.Bool.{Bool, true, false}
 use mathlib.Core.List.{List, [], ◌∷◌, ◌++◌}
-use Prim.Native.Nat.{ℕ, zero, suc, ◌+◌, ◌*◌, ◌≤◌, ◌<◌}
+use Prim.Native.Nat.{ℕ, ◌+◌, ◌*◌, ◌^◌, ◌≤◌, ◌<◌}
 use native.Mathlib.Omega.{arith}
 use lib.Dec.{leb}
 use lib.ListN.{length, take, drop, length-append}
@@ -17,14 +17,14 @@ use Rattle.memory_definition.specs.Forms.{text_read}
 use Rattle.memory_definition.specs.Memory.{size, readable_all, text_all, node_words_of, nodes_all}
 use Rattle.memory_definition.specs.Answers.{read_refused, read_answer, read_over, tree_read_of, nodes_read_of, text_read_of}
 use Rattle.memory_laws.specs.InWords.{cells_from}
-use Rattle.memory_nodes.specs.All.{Words, Ready}
-use Rattle.memory.specs.Trees.{TreeIn, InWords, Laid, ReadsCells, ReadsMemory}
+use Rattle.memory_nodes.specs.All.{Written}
+use Rattle.memory.specs.Trees.{TreeIn, Few, Laid, ReadsCells, ReadsMemory}
 use Rattle.std.specs.Prelude.{Option, Some, None, Ok, Err}
 use Rattle.std.specs.Prelude as std
 use Rattle.definition.specs.declared.answers.Refusal.{Refusal}
 use Rattle.definition.specs.declared.answers.Refusal.TheVariants as refusal
 use Rattle.definition.specs.Answers.{number_of}
-use Rattle.resolver.proofs.Answering.{not-zero}
+use Rattle.acceptance.proofs.Wanting.{not-zero}
 
 -- ---- how many words
 nodes-long : (f : List ℕ) (at : ℕ) (cs : List Cell) (bs : List ℕ) → length (nodes_all f at cs bs) ≡ 6 * length cs
@@ -34,74 +34,71 @@ nodes-long f at (c ∷ cs) bs =
     let k = nodes-long f (at + length (text_read f c (take (size f c) bs))) cs (drop (size f c) bs) in
     simp length-append (omega (arith, k))
 
-cells-many : (room shapes : List ℕ) (at n : ℕ) → length (cells_from room shapes at n) ≡ n
-unfolding cells_from
-cells-many room shapes at zero = refl
-cells-many room shapes at (suc n) = ap suc (cells-many room shapes (at + 6) n)
-
 -- ---- `read_cells` and `read_held`
-pub words_of : {f room shapes : List ℕ} {n : ℕ} → InWords f room shapes n → Words f room shapes n
-words_of i = (i.placed, i.nodes, i.places)
+module _ (f : List ℕ) (cs : List Cell) (bs : List ℕ) where
+  six : length (nodes_all f 0 cs bs) ≡ length cs * 6
+  six = omega (arith, nodes-long f 0 cs bs)
 
-module _ (f room shapes : List ℕ) (n : ℕ) (bs : List ℕ) where
-  six : length (nodes_all f 0 (cells_from room shapes 0 n) bs) ≡ n * 6
-  six = omega (arith, nodes-long f 0 (cells_from room shapes 0 n) bs, cells-many room shapes 0 n)
-
-  pub unread : {b : Bool} → b ≡ readable_all f (cells_from room shapes 0 n) bs → {nodes text : List ℕ} → b ≡ false
-      → ReadsCells f (cells_from room shapes 0 n) bs nodes text (Err refusal.NotHeld) nodes text
+  pub unread : {b : Bool} → b ≡ readable_all f cs bs → {nodes text : List ℕ} → b ≡ false → ReadsCells f cs bs nodes text (Err refusal.NotHeld) nodes text
   unfolding number_of tree_says read_answer read_over read_refused
-  unread h e = let k : readable_all f (cells_from room shapes 0 n) bs ≡ false = sym h ∙ e in record { says = rw k; nodes_are = rw k; text_is = rw k }
+  unread h e = let k : readable_all f cs bs ≡ false = sym h ∙ e in record { says = rw k; nodes_are = rw k; text_is = rw k }
 
-  pub ready : InWords f room shapes n → {b : Bool} → b ≡ readable_all f (cells_from room shapes 0 n) bs → b ≡ true → Ready f room shapes n bs
-  ready i h e = record { words = words_of i; read = sym h ∙ e; few = i.few }
+  pub ready : Few f cs → {b : Bool} → b ≡ readable_all f cs bs → b ≡ true → Written f cs bs
+  ready i h e = record { placed = i.placed; read = sym h ∙ e; few = i.few }
 
-  nodes-fit : (m : ℕ) → n * 6 ≤ m → leb (length (nodes_all f 0 (cells_from room shapes 0 n) bs)) m ≡ true
-  nodes-fit m l = rw six (le-leb (n * 6) m l)
+  nodes-fit : (m : ℕ) → length cs * 6 ≤ m → leb (length (nodes_all f 0 cs bs)) m ≡ true
+  nodes-fit m l = rw six (le-leb (length cs * 6) m l)
 
-  module _ (i : Ready f room shapes n bs) {nodes : List ℕ} where
-    pub short-nodes : {text : List ℕ} → length nodes < n * 6 → ReadsCells f (cells_from room shapes 0 n) bs nodes text (Err refusal.Short) nodes text
+  module _ (i : Written f cs bs) {n : ℕ} (c : n ≡ length cs) {nodes : List ℕ} where
+    pub short-nodes : {text : List ℕ} → length nodes < n * 6 → ReadsCells f cs bs nodes text (Err refusal.Short) nodes text
     unfolding number_of tree_says read_answer read_over read_refused
     short-nodes l =
-        let z : leb (length (nodes_all f 0 (cells_from room shapes 0 n) bs)) (length nodes) ≡ false = rw six (lt-leb (n * 6) (length nodes) l) in
+        let z : leb (length (nodes_all f 0 cs bs)) (length nodes) ≡ false = rw six (lt-leb (length cs * 6) (length nodes) (omega (arith, c))) in
         record { says = rw (i.read, z); nodes_are = rw (i.read, z); text_is = rw (i.read, z) }
 
-    module _ (l : n * 6 ≤ length nodes) {m : ℕ} (s : m ≡ length (text_all f (cells_from room shapes 0 n) bs)) {text : List ℕ} where
-      pub short-text : length text < m → ReadsCells f (cells_from room shapes 0 n) bs nodes text (Err refusal.Short) nodes text
+    module _ (l : n * 6 ≤ length nodes) {m : ℕ} (s : m ≡ length (text_all f cs bs)) {text : List ℕ} where
+      pub short-text : length text < m → ReadsCells f cs bs nodes text (Err refusal.Short) nodes text
       unfolding number_of tree_says read_answer read_over read_refused
       short-text q =
-          let z = nodes-fit (length nodes) l in
-          let y : leb (length (text_all f (cells_from room shapes 0 n) bs)) (length text) ≡ false = rw (← s) (lt-leb m (length text) q) in
-          record { says = rw (i.read, z, y); nodes_are = rw (i.read, z, y); text_is = rw (i.read, z, y) }
+          let fit : leb (length (nodes_all f 0 cs bs)) (length nodes) ≡ true = nodes-fit (length nodes) (omega (arith, c)) in
+          let y : leb (length (text_all f cs bs)) (length text) ≡ false = rw (← s) (lt-leb m (length text) q) in
+          record { says = rw (i.read, fit, y); nodes_are = rw (i.read, fit, y); text_is = rw (i.read, fit, y) }
 
       pub all_read : m ≤ length text → {new_nodes new_text : List ℕ}
-          → new_nodes ≡ nodes_all f 0 (cells_from room shapes 0 n) bs ++ drop (n * 6) nodes
-          → new_text ≡ text_all f (cells_from room shapes 0 n) bs ++ drop (length (text_all f (cells_from room shapes 0 n) bs)) text
-          → ReadsCells f (cells_from room shapes 0 n) bs nodes text (Ok (Some n)) new_nodes new_text
+          → new_nodes ≡ nodes_all f 0 cs bs ++ drop (length cs * 6) nodes
+          → new_text ≡ text_all f cs bs ++ drop (length (text_all f cs bs)) text
+          → ReadsCells f cs bs nodes text (Ok (Some n)) new_nodes new_text
       unfolding number_of tree_says read_answer read_over read_refused over
       all_read q p t =
-          let z = nodes-fit (length nodes) l in
-          let y : leb (length (text_all f (cells_from room shapes 0 n) bs)) (length text) ≡ true = rw (← s) (le-leb m (length text) q) in
+          let fit : leb (length (nodes_all f 0 cs bs)) (length nodes) ≡ true = nodes-fit (length nodes) (omega (arith, c)) in
+          let y : leb (length (text_all f cs bs)) (length text) ≡ true = rw (← s) (le-leb m (length text) q) in
           record {
-            says = rw (i.read, z, y, cells-many room shapes 0 n);
-            nodes_are = rw (i.read, z, y) (p ∙ ap (λ (d : ℕ). nodes_all f 0 (cells_from room shapes 0 n) bs ++ drop d nodes) (sym six));
-            text_is = rw (i.read, z, y) t;
+            says = rw (i.read, fit, y, ← c);
+            nodes_are = rw (i.read, fit, y) (p ∙ ap (λ (d : ℕ). nodes_all f 0 cs bs ++ drop d nodes) (sym six));
+            text_is = rw (i.read, fit, y) t;
           }
+
+pub nodes_fits : {f : List ℕ} {cs : List Cell} {bs : List ℕ} → Written f cs bs → {n : ℕ} → n ≡ length cs → n * 6 < 2 ^ 64
+nodes_fits i c = omega (arith, i.few, c)
+
+pub nodes_room : (cs : List Cell) {n : ℕ} → n ≡ length cs → {l : ℕ} → n * 6 ≤ l → length cs * 6 ≤ l
+nodes_room cs c h = omega (arith, c)
 
 pub text-fits : (f : List ℕ) (cs : List Cell) (bs : List ℕ) {n : ℕ} → n ≡ length (text_all f cs bs) → {l : ℕ} → n ≤ l → length (text_all f cs bs) ≤ l
 text-fits f cs bs e h = omega arith
 
-pub ruleset cell_reading = (rules, unread, ready, words_of)
+pub ruleset cell_reading = (rules, unread, ready)
 
-pub ruleset held_reading = (rules, short-nodes, short-text, all_read, text-fits)
+pub ruleset held_reading = (rules, short-nodes, short-text, all_read, text-fits, nodes_fits, nodes_room)
 
 -- ---- `read_tree`
-module _ {f : List ℕ} {v : ℕ} {room : List ℕ} {n : ℕ} (h : TreeIn f v room n) {shapes : List ℕ} (l : Laid f v room shapes n) where
-  pub tree-read : {bs nodes text : List ℕ} {r : std.Result (Option ℕ) Refusal} {new_nodes new_text : List ℕ} → ReadsCells f (cells_from room shapes 0 n) bs nodes text r new_nodes new_text
+module _ {f : List ℕ} {v : ℕ} {room : List ℕ} {n : ℕ} (h : TreeIn f v room n) {shapes : List ℕ} (l : Laid f v room shapes n) {cs : List Cell} (e : cs ≡ cells_from room shapes 0 n) where
+  pub tree-read : {bs nodes text : List ℕ} {r : std.Result (Option ℕ) Refusal} {new_nodes new_text : List ℕ} → ReadsCells f cs bs nodes text r new_nodes new_text
       → ReadsMemory f v (variable_outcome f v) bs nodes text r new_nodes new_text
   unfolding tree_read_of nodes_read_of text_read_of
   tree-read {bs} {nodes} {text} {r} {new_nodes} {new_text} w =
       let c : ReadsCells f (variable_cells f v h.tree) bs nodes text r new_nodes new_text =
-      subst (λ (cs : List Cell). ReadsCells f cs bs nodes text r new_nodes new_text) (l.cells h.tree h.is) w in
+      subst (λ (cs : List Cell). ReadsCells f cs bs nodes text r new_nodes new_text) (e ∙ l.cells h.tree h.is) w in
       record { says = rw h.is c.says; nodes_are = rw h.is c.nodes_are; text_is = rw h.is c.text_is }
 
 pub ruleset tree_reading = (rules, tree-read)

@@ -27,7 +27,7 @@ use Rattle.std.specs.Prelude as std
 use Rattle.definition.specs.declared.answers.Refusal.{Refusal}
 use Rattle.definition.specs.declared.answers.Refusal.TheVariants as refusal
 use Rattle.definition.specs.Answers.{number_of, tree_says}
-use Rattle.resolver.proofs.Answering.{not-zero}
+use Rattle.acceptance.proofs.Wanting.{not-zero}
 
 -- ---- `write_cells`
 module _ (f : List ℕ) (cs : List Cell) {b : Bool} (h : b ≡ held_all f cs) where
@@ -73,11 +73,11 @@ size_fits f cs e h = omega arith
 pub ruleset held_writing = (rules, too_short, all-written, size_fits)
 
 -- ---- `write_tree`
-module _ {f : List ℕ} {v : ℕ} {room : List ℕ} {n : ℕ} (h : TreeIn f v room n) {shapes : List ℕ} (l : Laid f v room shapes n) where
-  pub tree-written : {old : List ℕ} {r : std.Result (Option ℕ) Refusal} {new : List ℕ} → WritesCells f (cells_from room shapes 0 n) old r new → WritesMemory f v (variable_outcome f v) old r new
+module _ {f : List ℕ} {v : ℕ} {room : List ℕ} {n : ℕ} (h : TreeIn f v room n) {shapes : List ℕ} (l : Laid f v room shapes n) {cs : List Cell} (e : cs ≡ cells_from room shapes 0 n) where
+  pub tree-written : {old : List ℕ} {r : std.Result (Option ℕ) Refusal} {new : List ℕ} → WritesCells f cs old r new → WritesMemory f v (variable_outcome f v) old r new
   unfolding memory_of memory_in
   tree-written {old} {r} {new} w =
-      let c : WritesCells f (variable_cells f v h.tree) old r new = subst (λ (cs : List Cell). WritesCells f cs old r new) (l.cells h.tree h.is) w in
+      let c : WritesCells f (variable_cells f v h.tree) old r new = subst (λ (cs : List Cell). WritesCells f cs old r new) (e ∙ l.cells h.tree h.is) w in
       record { says = rw h.is c.says; is = rw h.is c.is }
 
 pub ruleset tree_writing = (rules, tree-written)

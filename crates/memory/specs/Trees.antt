@@ -11,7 +11,7 @@ use Rattle.memory_definition.specs.Forms.{file_characters}
 use Rattle.memory_definition.specs.Memory.{held_all, narrow_all, text_all, nodes_all}
 use Rattle.memory_definition.specs.Answers.{memory_says, cells_answer, cells_out, memory_of, memory_in, read_answer, read_over, tree_read_of, nodes_read_of, text_read_of}
 use Rattle.memory_laws.specs.InWords.{cells_from}
-use Rattle.memory_laws.specs.Placed.{PlacedIn}
+use Rattle.memory_laws.specs.Placed.{PlacedIn, PlacedAll}
 
 -- the variable's tree stands at the front of the room, so many nodes
 pub record TreeIn (f : List ℕ) (v : ℕ) (room : List ℕ) (many : ℕ) : Type 0 where
@@ -31,6 +31,11 @@ pub record InWords (f tree shapes : List ℕ) (many : ℕ) : Type 0 where
 pub record Laid (f : List ℕ) (v : ℕ) (room shapes : List ℕ) (many : ℕ) : Type 0 where
   pub words : InWords f room shapes many
   pub cells : (t : Tree) → variable_outcome f v ≡ ok t → cells_from room shapes 0 many ≡ variable_cells f v t
+
+-- so many cells, in places of an accepted file
+pub record Few (f : List ℕ) (cs : List Cell) : Type 0 where
+  pub placed : PlacedAll f cs
+  pub few : length cs ≤ 2048
 
 -- ---- writing
 pub record Writable (f : List ℕ) (cs : List Cell) : Type 0 where

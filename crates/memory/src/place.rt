@@ -19,8 +19,7 @@ pub fn lay_variable(file: &File<'_>, v: u32, room: &[u32], nodes: usize, shapes:
     let mut classes = [0u32; KNOWN_WORDS];
     shape_classes(file, &mut classes);
     let i = file.source.word(VARIABLES, v, 3);
-    match variable_place(&file.source, v, i) {
-        Some(place) => lay_out(file, &classes, room, place, shapes),
-        None => {}
+    if let Some(place) = variable_place(&file.source, v, i) {
+        lay_out(file, &classes, room, place, shapes);
     }
 }

@@ -5,60 +5,59 @@ ghost use Rattle.definition.specs.Starting.{variable_outcome};
 ghost use Rattle.definition.specs.Answers.{cleared, tree_says};
 ghost use Rattle.resolver.specs.Trees.{Passed};
 ghost use Rattle.memory_definition.specs.Answers.{read_memory_answer, read_memory_nodes, read_memory_text};
-ghost use Rattle.memory_laws.specs.InWords.{cells_from};
-ghost use Rattle.memory_nodes.specs.All.{Ready};
-ghost use Rattle.memory.specs.Trees.{TreeIn, InWords, ReadsCells, ReadsMemory};
+ghost use Rattle.memory_forms.specs.Cells.{left};
+ghost use Rattle.memory_nodes.specs.All.{Written};
+ghost use Rattle.memory.specs.Trees.{TreeIn, Few, ReadsCells, ReadsMemory};
 
 use crate::place::lay_variable;
 use definition::answers::Refusal;
 use definition::layout::{NODE_WORDS, TREE_WORDS, VARIABLES};
 use driver::told::Owner;
 use lines::clear::clear;
+use memory_forms::cells::Cells;
 use memory_nodes::all::{read_all, readable_all, text_count};
 use records::file::File;
+use records::source::Source;
 use resolver::refusal::admitted;
 use resolver::trees::build_tree;
 
 // Bytes that the nodes are written as.
 fn read_held(
-    file: &File<'_>,
-    tree: &[u32],
-    shapes: &[u32],
-    many: usize,
+    file: &Source<'_>,
+    cells: Cells<'_>,
     bytes: &[u8],
     nodes: &mut [u32],
     characters: &mut [u32],
 ) -> Result<Option<usize>, Refusal>
-    requires { Ready file.now.source tree.now shapes.now many bytes.now }
-    ensures { ReadsCells file.now.source (cells_from tree.now shapes.now 0 many) bytes.now nodes.old characters.old result nodes.new characters.new }
+    requires { Written file.now (left cells) bytes.now }
+    ensures { ReadsCells file.now (left cells.entry) bytes.now nodes.old characters.old result nodes.new characters.new }
 {
+    let many = cells.len();
     if nodes.len() < many * NODE_WORDS {
         return Err(Refusal::Short);
     }
-    let text = text_count(file, tree, shapes, many, bytes);
+    let text = text_count(file, cells, bytes);
     if characters.len() < text {
         return Err(Refusal::Short);
     }
-    read_all(file, tree, shapes, many, bytes, nodes, characters);
+    read_all(file, cells, bytes, nodes, characters);
     Ok(Some(many))
 }
 
 // Refusal 14 before 10 for either slice.
 #[tactic(auto, using(crate::proofs::Reading::cell_reading))]
 fn read_cells(
-    file: &File<'_>,
-    tree: &[u32],
-    shapes: &[u32],
-    many: usize,
+    file: &Source<'_>,
+    cells: Cells<'_>,
     bytes: &[u8],
     nodes: &mut [u32],
     characters: &mut [u32],
 ) -> Result<Option<usize>, Refusal>
-    requires { InWords file.now.source tree.now shapes.now many }
-    ensures { ReadsCells file.now.source (cells_from tree.now shapes.now 0 many) bytes.now nodes.old characters.old result nodes.new characters.new }
+    requires { Few file.now (left cells) }
+    ensures { ReadsCells file.now (left cells.entry) bytes.now nodes.old characters.old result nodes.new characters.new }
 {
-    if readable_all(&file.source, tree, shapes, many, bytes) {
-        return read_held(file, tree, shapes, many, bytes, nodes, characters);
+    if readable_all(file, cells, bytes) {
+        return read_held(file, cells, bytes, nodes, characters);
     }
     Err(Refusal::NotHeld)
 }
@@ -78,7 +77,8 @@ fn read_tree(
 {
     let mut shapes = [0u32; TREE_WORDS];
     lay_variable(file, v, room, many, &mut shapes);
-    read_cells(file, room, &shapes, many, bytes, nodes, characters)
+    let cells = Cells::new(room, &shapes, many);
+    read_cells(&file.source, cells, bytes, nodes, characters)
 }
 
 // A variable's tree is built at the front of the room.

@@ -1,18 +1,19 @@
 // A variable's tree as the controller's bytes. Work words are lent as two slices, one for lines and one for room; they end as 0.
-ghost use Rattle.std.specs.Prelude.{◌≡◌, ◌<◌, length};
+ghost use Rattle.std.specs.Prelude.{◌≡◌, ◌<◌, ◌≤◌, length};
 ghost use Rattle.definition.specs.Layout as Layout;
 ghost use Rattle.definition.specs.Starting.{variable_outcome};
 ghost use Rattle.definition.specs.Answers.{cleared};
 ghost use Rattle.resolver.specs.Trees.{Passed};
 ghost use Rattle.memory_definition.specs.Answers.{memory_says, write_memory_answer, write_memory_out};
-ghost use Rattle.memory_laws.specs.InWords.{cells_from};
-ghost use Rattle.memory.specs.Trees.{TreeIn, InWords, Writable, WritesCells, WritesMemory};
+ghost use Rattle.memory_forms.specs.Cells.{left};
+ghost use Rattle.memory.specs.Trees.{TreeIn, Few, Writable, WritesCells, WritesMemory};
 
 use crate::place::lay_variable;
 use definition::answers::Refusal;
 use definition::layout::{NODE_WORDS, TREE_WORDS, VARIABLES};
 use driver::told::Owner;
 use memory_bytes::all::{held_all, narrow_all, size_all, write_all};
+use memory_forms::cells::Cells;
 use records::file::File;
 use records::source::Source;
 use resolver::lent::with_lent;
@@ -22,19 +23,17 @@ use resolver::trees::build_tree;
 // Nodes that are held, without a character too wide: as many bytes as their forms have.
 fn write_held(
     file: &Source<'_>,
-    tree: &[u32],
-    shapes: &[u32],
-    nodes: usize,
+    cells: Cells<'_>,
     bytes: &mut [u8],
 ) -> Result<Option<usize>, Refusal>
-    requires { InWords file.now tree.now shapes.now nodes × Writable file.now (cells_from tree.now shapes.now 0 nodes) }
-    ensures { WritesCells file.now (cells_from tree.now shapes.now 0 nodes) bytes.old result bytes.new }
+    requires { (length (left cells) ≤ 2048) × Writable file.now (left cells) }
+    ensures { WritesCells file.now (left cells.entry) bytes.old result bytes.new }
 {
-    let size = size_all(file, tree, shapes, nodes);
+    let size = size_all(file, cells);
     if bytes.len() < size {
         return Err(Refusal::Short);
     }
-    write_all(file, tree, shapes, nodes, bytes);
+    write_all(file, cells, bytes);
     Ok(Some(size))
 }
 
@@ -42,21 +41,19 @@ fn write_held(
 #[tactic(auto, using(crate::proofs::Writing::cell_writing))]
 fn write_cells(
     file: &Source<'_>,
-    tree: &[u32],
-    shapes: &[u32],
-    nodes: usize,
+    cells: Cells<'_>,
     bytes: &mut [u8],
 ) -> Result<Option<usize>, Refusal>
-    requires { InWords file.now tree.now shapes.now nodes }
-    ensures { WritesCells file.now (cells_from tree.now shapes.now 0 nodes) bytes.old result bytes.new }
+    requires { Few file.now (left cells) }
+    ensures { WritesCells file.now (left cells.entry) bytes.old result bytes.new }
 {
-    if held_all(file, tree, shapes, nodes) {
-        if narrow_all(file, tree, shapes, nodes) {
-            return write_held(file, tree, shapes, nodes, bytes);
-        }
+    if !held_all(file, cells) {
+        return Err(Refusal::NotHeld);
+    }
+    if !narrow_all(file, cells) {
         return Err(Refusal::Wide);
     }
-    Err(Refusal::NotHeld)
+    write_held(file, cells, bytes)
 }
 
 // The tree that stands at the front of the room.
@@ -72,7 +69,7 @@ fn write_tree(
 {
     let mut shapes = [0u32; TREE_WORDS];
     lay_variable(file, v, room, nodes, &mut shapes);
-    write_cells(&file.source, room, &shapes, nodes, bytes)
+    write_cells(&file.source, Cells::new(room, &shapes, nodes), bytes)
 }
 
 // A variable's tree is built at the front of the room.

@@ -1,81 +1,70 @@
 -- Bytes that come one after another from a number. Assumes nothing.
-use mathlib.Core.Path.{◌≡◌, refl, ap, ◌∙◌}
+use mathlib.Core.Path.{◌≡◌, refl, ap, subst}
 use mathlib.Core.List.{List, [], ◌∷◌, ◌++◌}
 use Prim.Native.Nat.{ℕ, zero, suc, ◌+◌, ◌-◌, ◌/◌, ◌%◌, ◌≤◌, ◌<◌}
 use native.Mathlib.Omega.{arith}
 use lib.ListN.{length, replicate, take, drop}
 use Rattle.std.proofs.Math.ListN.{length-replicate}
 use borrow.Author.Rules.{rules}
-use Rattle.laws.specs.Puts.{Puts}
+use Rattle.laws.specs.Puts.{Puts, puts-long}
 use Rattle.text.proofs.Putting.{Putting, putting-first, putting-more, putting-done}
 use Rattle.memory_definition.specs.Numbers.{little_endian}
 use Rattle.memory_bytes.specs.Flipped.{flipped}
+use Rattle.memory_bytes.specs.Turned.{turned, TurnedBy}
 
--- ---- so many bytes of a number: its own, and those of the next
-module _ (bytes : ℕ → ℕ → List ℕ) (own next : ℕ → ℕ) (none : (n : ℕ) → bytes 0 n ≡ []) (more : (k n : ℕ) → bytes (suc k) n ≡ own n ∷ bytes k (next n)) where
-  many : (k n : ℕ) → length (bytes k n) ≡ k
-  many zero n = rw (none n)
-  many (suc k) n = rw (more k n) (ap suc (many k (next n)))
+-- ---- `put_each`: of so many bytes j are put
+many : (g : ℕ → ℕ) (k n : ℕ) → length (turned g k n) ≡ k
+unfolding turned
+many g zero n = refl
+many g (suc k) n = ap suc (many g k (n / 256))
 
-  first-left : (count n at : ℕ) (old : List ℕ) → at + count ≤ length old → Putting (bytes count n) old at (bytes (count - 0) n) old at
-  first-left count n at old h = let q : count - 0 ≡ count = omega arith in rw q (putting-first (bytes count n) old at (omega (arith, many count n)))
+pub record Turning (answers : ℕ → ℕ → Type 0) (count n : ℕ) (old : List ℕ) (at j rest : ℕ) (text : List ℕ) (end : ℕ) : Type 0 where
+  pub says : (g : ℕ → ℕ) → ((b x : ℕ) → answers b x → x ≡ g b) → Putting (turned g count n) old at (turned g (count - j) rest) text end
+  pub room : end + (count - j) ≤ length text
 
-  module _ {whole old : List ℕ} {at : ℕ} (count j n : ℕ) {text : List ℕ} {end : ℕ} (x : Putting whole old at (bytes (count - j) n) text end) where
-    room-left : j < count → end < length text
-    room-left h = omega (arith, x.room, many (count - j) n)
+pub turning-first : (answers : ℕ → ℕ → Type 0) (count n : ℕ) (old : List ℕ) (at : ℕ) → at + count ≤ length old → Turning answers count n old at 0 n old at
+turning-first answers count n old at h =
+    let q : count - 0 ≡ count = omega arith in
+    record { says = λ g i. rw q (putting-first (turned g count n) old at (omega (arith, many g count n))); room = omega arith }
 
-    less-left : j < count → {e : ℕ} {new : List ℕ} → Puts (own n ∷ []) text end e new → Putting whole old at (bytes (count - (j + 1)) (next n)) new e
-    less-left h p = let q : count - j ≡ suc (count - (j + 1)) = omega arith in putting-more x p (bytes (count - (j + 1)) (next n)) (ap (λ i. bytes i n) q ∙ more (count - (j + 1)) n)
+module _ {answers : ℕ → ℕ → Type 0} {count n : ℕ} {old : List ℕ} {at j rest : ℕ} {text : List ℕ} {end : ℕ} (x : Turning answers count n old at j rest text end) where
+  pub turning-room : j < count → end < length text
+  turning-room h = omega (arith, x.room)
 
-    none_left : count ≤ j → Puts whole old at end text
-    none_left h = let q : count - j ≡ 0 = omega arith in putting-done x (ap (λ i. bytes i n) q ∙ none n)
+  pub turning-more : j < count → {y : ℕ} → answers (rest % 256) y → {e : ℕ} {new : List ℕ} → Puts (y ∷ []) text end e new → Turning answers count n old at (j + 1) (rest / 256) new e
+  unfolding turned
+  turning-more h {y} a {e} {new} p =
+      let q : count - j ≡ suc (count - (j + 1)) = omega arith in
+      record {
+        says = λ g i.
+            putting-more (x.says g i) (subst (λ (b : ℕ). Puts (b ∷ []) text end e new) (i (rest % 256) y a) p) (turned g (count - (j + 1)) (rest / 256)) (ap (λ k. turned g k rest) q);
+        room = omega (arith, x.room, p.ends, puts-long p);
+      }
 
--- ---- `put_number`
-le-none : (n : ℕ) → little_endian 0 n ≡ []
-unfolding little_endian
-le-none n = refl
+  pub turning-done : count ≤ j → TurnedBy answers count n old at end text
+  unfolding turned
+  turning-done h = let q : count - j ≡ 0 = omega arith in record { is = λ g i. putting-done (x.says g i) (ap (λ k. turned g k rest) q) }
 
-le-more : (k n : ℕ) → little_endian (suc k) n ≡ (n % 256) ∷ little_endian k (n / 256)
-unfolding little_endian
-le-more k n = refl
+-- ---- `put_number`, `put_flipped`
+turned-plain : (k n : ℕ) → turned (λ b. b) k n ≡ little_endian k n
+unfolding turned little_endian
+turned-plain zero n = refl
+turned-plain (suc k) n = ap (λ l. (n % 256) ∷ l) (turned-plain k (n / 256))
 
-pub number-first : (count n at : ℕ) (old : List ℕ) → at + count ≤ length old → Putting (little_endian count n) old at (little_endian (count - 0) n) old at
-number-first count n at old h = first-left little_endian (λ n. n % 256) (λ n. n / 256) le-none le-more count n at old h
+turned-flipped : (k n : ℕ) → turned (λ b. 255 - b) k n ≡ flipped k n
+unfolding turned flipped
+turned-flipped zero n = refl
+turned-flipped (suc k) n = ap (λ l. (255 - n % 256) ∷ l) (turned-flipped k (n / 256))
 
-module _ {whole old : List ℕ} {at : ℕ} (count j n : ℕ) {text : List ℕ} {end : ℕ} (x : Putting whole old at (little_endian (count - j) n) text end) where
-  pub number-room : j < count → end < length text
-  number-room h = room-left little_endian (λ n. n % 256) (λ n. n / 256) le-none le-more count j n x h
+module _ (count n : ℕ) {old : List ℕ} {at r : ℕ} {new : List ℕ} where
+  pub plain-put : Puts (turned (λ b. b) count n) old at r new → Puts (little_endian count n) old at r new
+  plain-put p = subst (λ (l : List ℕ). Puts l old at r new) (turned-plain count n) p
 
-  pub number-less : j < count → {e : ℕ} {new : List ℕ} → Puts ((n % 256) ∷ []) text end e new → Putting whole old at (little_endian (count - (j + 1)) (n / 256)) new e
-  number-less h p = less-left little_endian (λ n. n % 256) (λ n. n / 256) le-none le-more count j n x h p
-
-  pub number-done : count ≤ j → Puts whole old at end text
-  number-done h = none_left little_endian (λ n. n % 256) (λ n. n / 256) le-none le-more count j n x h
-
--- ---- `put_flipped`
-flip-none : (n : ℕ) → flipped 0 n ≡ []
-unfolding flipped
-flip-none n = refl
-
-flip-more : (k n : ℕ) → flipped (suc k) n ≡ (255 - n % 256) ∷ flipped k (n / 256)
-unfolding flipped
-flip-more k n = refl
-
-pub flipped-first : (count n at : ℕ) (old : List ℕ) → at + count ≤ length old → Putting (flipped count n) old at (flipped (count - 0) n) old at
-flipped-first count n at old h = first-left flipped (λ n. 255 - n % 256) (λ n. n / 256) flip-none flip-more count n at old h
-
-module _ {whole old : List ℕ} {at : ℕ} (count j n : ℕ) {text : List ℕ} {end : ℕ} (x : Putting whole old at (flipped (count - j) n) text end) where
-  pub flipped-room : j < count → end < length text
-  flipped-room h = room-left flipped (λ n. 255 - n % 256) (λ n. n / 256) flip-none flip-more count j n x h
-
-  pub flipped-less : j < count → {e : ℕ} {new : List ℕ} → Puts ((255 - n % 256) ∷ []) text end e new → Putting whole old at (flipped (count - (j + 1)) (n / 256)) new e
-  flipped-less h p = less-left flipped (λ n. 255 - n % 256) (λ n. n / 256) flip-none flip-more count j n x h p
-
-  pub flipped-done : count ≤ j → Puts whole old at end text
-  flipped-done h = none_left flipped (λ n. 255 - n % 256) (λ n. n / 256) flip-none flip-more count j n x h
+  pub flipped-put : Puts (turned (λ b. 255 - b) count n) old at r new → Puts (flipped count n) old at r new
+  flipped-put p = subst (λ (l : List ℕ). Puts l old at r new) (turned-flipped count n) p
 
 -- ---- `put_zeros`
 pub zeros-put : (count at : ℕ) (old : List ℕ) {new : List ℕ} → at + count ≤ length old → new ≡ take at old ++ replicate count 0 ++ drop (at + count) old → Puts (replicate count 0) old at (at + count) new
 zeros-put count at old h e = record { ends = rw (length-replicate {A = ℕ} count 0) refl; fits = h; is = e }
 
-pub ruleset numbering = (rules, number-first, number-room, number-less, number-done, flipped-first, flipped-room, flipped-less, flipped-done, zeros-put)
+pub ruleset numbering = (rules, turning-room, turning-done, zeros-put)

@@ -1,12 +1,11 @@
 -- A law for each return of cell.rt and of `narrow`. Assumes nothing.
 use borrow.Enum.Refused.{opened}
 use mathlib.Core.Path.{◌≡◌, refl, ap, sym, ◌∙◌}
-use mathlib.Core.Bool.{Bool, true, false, not, ◌&&◌}
+use mathlib.Core.Bool.{Bool, true}
 use mathlib.Core.List.{List, [], ◌∷◌}
 use Prim.Native.Nat.{ℕ, suc, ◌+◌, ◌-◌, ◌*◌, ◌/◌, ◌^◌, ◌≤◌, ◌<◌}
 use native.Mathlib.Omega.{arith}
 use native.Mathlib.Nat.{pow-le-pow_right}
-use lib.Dec.{eqb, ltb}
 use lib.ListN.{length, replicate}
 use borrow.Author.Rules.{rules}
 use borrow.Author.Tests.{eq-eqb, ne_eqb}
@@ -14,12 +13,10 @@ use types.Run.{OneOf, miss}
 use denote.Enum.Declared.{tag_of}
 use Rattle.definition.specs.declared.records.Shape.{Shape}
 use Rattle.definition.specs.declared.records.Constant.{Constant}
-use Rattle.definition.specs.Base.{pick}
 use Rattle.definition.specs.Layout.{members}
 use Rattle.definition.specs.Records.{constant_of}
 use Rattle.definition.specs.Places.{first_named}
 use Rattle.definition.specs.Scalar.{size_of, value_of}
-use Rattle.laws.specs.Cases.{never, both}
 use Rattle.laws.specs.Puts.{Puts, puts_none}
 use Rattle.tree.specs.declared.node.Node.{Node}
 use Rattle.memory_definition.specs.contracts.form.Form.{the_type}
@@ -31,6 +28,9 @@ use Rattle.memory_definition.specs.Forms.{form_at, form_of, constant_on, held_co
 use Rattle.memory_definition.specs.Memory.{size}
 use Rattle.memory_laws.specs.Bytes.{Signed, plain-sign, Sided, plain, negative, natural, sided}
 use Rattle.memory_laws.specs.Fits.{plain-held, Fitting, fitting}
+use Rattle.std.specs.Prelude.{Option, Some, None}
+use Rattle.std.specs.Option.{unwrap_or}
+use Rattle.tree.specs.Part.{on_end}
 use Rattle.memory_forms.specs.Cell.{node_of, cell_of}
 use Rattle.memory_bytes.specs.Flipped.{flipped, flipped-is, Within}
 
@@ -65,7 +65,7 @@ sided-within signed bits c (plain z s l) = record { some = λ e. absurd (omega a
 sided-within signed bits c (negative z s p l) = record { some = λ e. p; most = λ e. omega (arith, pow-le-pow_right {n = 2} (omega arith) {i = bits - 1} {j = bits} (omega arith)) }
 sided-within signed bits c (natural z s l) = record { some = λ e. absurd (omega arith); most = λ e. absurd (omega arith) }
 
-module _ (f : List ℕ) (s : Shape) (n : Node) (h : held f (cell_of s n) ≡ true) {x : Form} (is : x ≡ form_at f s n.kind) where
+module _ (f : List ℕ) (s : Shape) (n : Node) (h : held f (cell_of s n) ≡ true) {x : Form} (is : x ≡ form_at f s n.value.kind) where
   form-is : form_of f (cell_of s n) ≡ x
   unfolding form_of
   form-is = sym is
@@ -82,7 +82,7 @@ module _ (f : List ℕ) (s : Shape) (n : Node) (h : held f (cell_of s n) ≡ tru
       let i : Fitting (form.Number signed bits kind width) (constant_on (node_of n)) = rw g at (fitting f (cell_of s n) k) in
       rw q (sided-within signed bits (constant_on (node_of n)) (sided signed bits (constant_on (node_of n)).sign (size_of (constant_on (node_of n))) (held_plain f (cell_of s n) k) i))
 
-  pub string-few : {most width : ℕ} → x ≡ form.String most width → n.high ≤ most
+  pub string-few : {most width : ℕ} → x ≡ form.String most width → n.value.high ≤ most
   unfolding held_as constant_on constant_of
   string-few {most} {width} e =
       let k : held_constant f (cell_of s n) ≡ true = rw e at as-form in
@@ -142,7 +142,7 @@ module _ (f : List ℕ) (s : Shape) (n : Node) (h : held f (cell_of s n) ≡ tru
     unfolding bytes_as
     put-null e p = put_as (rw e p)
 
-    pub put-bool : x ≡ form.Bool → Puts (little_endian 1 n.low) old at r new → Puts (bytes f (file_characters f) (cell_of s n)) old at r new
+    pub put-bool : x ≡ form.Bool → Puts (little_endian 1 n.value.low) old at r new → Puts (bytes f (file_characters f) (cell_of s n)) old at r new
     unfolding bytes_as
     put-bool e p = put_as (rw e p)
 
@@ -161,31 +161,27 @@ module _ (f : List ℕ) (s : Shape) (n : Node) (h : held f (cell_of s n) ≡ tru
     unfolding bytes_as
     put-long-real e q i p = put_as (rw (e, ← q, ← i) p)
 
-    pub put-text : {most width : ℕ} → x ≡ form.String most width → Puts (string_bytes most width (characters_from (file_characters f) n.low n.high)) old at r new
+    pub put-text : {most width : ℕ} → x ≡ form.String most width → Puts (string_bytes most width (characters_from (file_characters f) n.value.low n.value.high)) old at r new
         → Puts (bytes f (file_characters f) (cell_of s n)) old at r new
     unfolding bytes_as text_on
     put-text e p = put_as (rw e p)
 
-    pub put-member : {first many : ℕ} → x ≡ form.Enumeration first many → (place : ℕ) → pick (ltb place many) (suc (first + place)) 0 ≡ first_named f members n.low first many
-        → Puts (little_endian 2 place) old at r new → Puts (bytes f (file_characters f) (cell_of s n)) old at r new
+    pub put-member : {first many : ℕ} → x ≡ form.Enumeration first many → (place : Option ℕ) → on_end place (λ p. suc (first + p)) 0 ≡ first_named f members n.value.low first many
+        → {w : ℕ} → w ≡ unwrap_or place 0 → Puts (little_endian 2 w) old at r new → Puts (bytes f (file_characters f) (cell_of s n)) old at r new
     unfolding bytes_as member_link held_as
-    put-member {first} {many} e place q p =
-        let k : eqb n.kind 9 && not (eqb (first_named f members n.low first many) 0) ≡ true = rw e at as-form in
-        let m : not (eqb (pick (ltb place many) (suc (first + place)) 0) 0) ≡ true = rw q (both (eqb n.kind 9) (not (eqb (first_named f members n.low first many) 0)) k).1 in
-        let g : pick (ltb place many) (suc (first + place)) 0 - suc first ≡ place = go (ltb place many) m in
-        put_as (rw (e, ← q, g) p)
+    put-member {first} {many} e place q {w} i p = put_as (rw (e, ← q, g place) (rw i at p))
       where
-        go : (b : Bool) → not (eqb (pick b (suc (first + place)) 0) 0) ≡ true → pick b (suc (first + place)) 0 - suc first ≡ place
-        go true m = omega arith
-        go false m = never m
+        g : (o : Option ℕ) → on_end o (λ k. suc (first + k)) 0 - suc first ≡ unwrap_or o 0
+        g (Some k) = omega arith
+        g None = omega arith
 
 -- ---- `narrow`
 -- every form but a string
 abbrev textless : List ℕ
 textless = 0 ∷ 1 ∷ 2 ∷ 3 ∷ 4 ∷ 5 ∷ 7 ∷ 8 ∷ []
 
-module _ (f : List ℕ) (s : Shape) (n : Node) {x : Form} (is : x ≡ form_at f s n.kind) where
-  pub narrow-text : {most width : ℕ} → x ≡ form.String most width → {l : ℕ} → l ≡ 256 ^ character_bytes width → {b : Bool} → b ≡ every_below l (characters_from (file_characters f) n.low n.high)
+module _ (f : List ℕ) (s : Shape) (n : Node) {x : Form} (is : x ≡ form_at f s n.value.kind) where
+  pub narrow-text : {most width : ℕ} → x ≡ form.String most width → {l : ℕ} → l ≡ 256 ^ character_bytes width → {b : Bool} → b ≡ every_below l (characters_from (file_characters f) n.value.low n.value.high)
       → b ≡ narrow f (file_characters f) (cell_of s n)
   unfolding narrow narrow_as form_of text_on
   narrow-text e q h = rw (← is, e, ← q) h

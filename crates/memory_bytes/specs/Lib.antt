@@ -1,3 +1,4 @@
 -- numbers below 0 as bytes
 pub mod Flipped
-pub mod Numbered
+-- bytes that a closure turns
+pub mod Turned

@@ -39,10 +39,11 @@ pub fn put_cell(bytes: &mut [u8], at: usize, file: &Source<'_>, shape: Shape, no
     requires { (held file.now (cell_of shape node) ≡ true) × (at + size file.now (cell_of shape node) ≤ length bytes.old) }
     ensures { Puts (Forms.bytes file.now (file_characters file.now) (cell_of shape node)) bytes.old at result bytes.new }
 {
-    match form_of(file, shape, node.kind) {
+    let value = node.value;
+    match form_of(file, shape, value.kind) {
         Form::Head => at,
         Form::Null => put_zeros(bytes, at, 4),
-        Form::Bool => put_number(bytes, at, node.low as u64, 1),
+        Form::Bool => put_number(bytes, at, value.low as u64, 1),
         Form::Number {
             signed: _,
             bits,
@@ -52,10 +53,10 @@ pub fn put_cell(bytes: &mut [u8], at: usize, file: &Source<'_>, shape: Shape, no
         Form::Real => put_number(bytes, at, narrow(range::size(constant_on(node))) as u64, 4),
         Form::LongReal => put_number(bytes, at, range::size(constant_on(node)), 8),
         Form::String { most, width } => {
-            put_string(bytes, at, file, most, width, node.low, node.high)
+            put_string(bytes, at, file, most, width, value.low, value.high)
         }
         Form::Enumeration { first, count } => {
-            let place = member_place(file, node.low, first, count);
+            let place = member_place(file, value.low, first, count).unwrap_or(0);
             put_number(bytes, at, place as u64, 2)
         }
         Form::Nothing => at,

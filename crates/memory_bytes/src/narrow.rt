@@ -31,8 +31,13 @@ fn character_limit(width: u32) -> u32
 pub fn narrow(file: &Source<'_>, shape: Shape, node: Node) -> bool
     ensures { result ≡ Forms.narrow file.now (file_characters file.now) (cell_of shape node) }
 {
-    let Form::String { most: _, width } = form_of(file, shape, node.kind) else {
+    let Form::String { most: _, width } = form_of(file, shape, node.value.kind) else {
         return true;
     };
-    every_below(file, character_limit(width), node.low, node.high)
+    every_below(
+        file,
+        character_limit(width),
+        node.value.low,
+        node.value.high,
+    )
 }

@@ -4,15 +4,14 @@ use mathlib.Core.Bool.{Bool, true, false}
 use mathlib.Core.List.{List}
 use Prim.Native.Nat.{ℕ, zero, suc, ◌+◌, ◌-◌, ◌*◌, ◌^◌, ◌≤◌, ◌<◌, min}
 use native.Mathlib.Omega.{arith}
-use native.Mathlib.Nat.{mul-le-mul, mul-zero, mul_comm, le-mul_of_pos_right, min-eq_left, min-eq_right}
-use native.Mathlib.Numerals.{add-one}
+use native.Mathlib.Nat.{mul-zero, mul_comm, le-mul_of_pos_right, min-eq_left, min-eq_right}
 use lib.Dec.{leb}
 use borrow.Author.Rules.{rules}
 use borrow.Author.Tests.{leb-true, leb-false}
 use Rattle.definition.specs.declared.records.Shape.{Shape}
 use Rattle.definition.specs.declared.records.Shape.TheVariants as shape
 use Rattle.definition.specs.Records.{shape_at}
-use Rattle.definition.specs.Accept.{dimension_span, elements_of}
+use Rattle.definition.specs.Accept.{elements_of}
 use Rattle.definition.specs.Shapes.{on_array}
 use Rattle.places.proofs.Others.{NoArray, no-array}
 use Rattle.memory_definition.specs.Cells.{entries_up_to}
@@ -41,39 +40,8 @@ module _ (M : ℕ) (pos : 0 < M) where
       ∙ ap (λ (k : ℕ). min k M) (mul_comm s n)
 
 -- ---- `times`
-module _ (a b : ℕ) where
-  pub times_zero : b ≡ 0 → 0 ≡ min (a * b) (2 ^ 32)
-  times_zero e = rw (e, mul-zero) (omega arith)
-
-  pub times-many : (b ≡ 0 → ⊥) → a ≡ 2 ^ 32 → 2 ^ 32 ≡ min (a * b) (2 ^ 32)
-  times-many n e =
-      let p : 0 < b = omega (arith, n) in
-      let h : a ≤ a * b = le-mul_of_pos_right a p in
-      omega arith
-
-  pub times-fit : a ≤ 2 ^ 32 → b ≤ 2 ^ 32 → (a ≡ 2 ^ 32 → ⊥) → a * b < 2 ^ 64
-  times-fit h l n =
-      let s : a ≤ 2 ^ 32 - 1 = omega (arith, n) in
-      let m : a * b ≤ (2 ^ 32 - 1) * 2 ^ 32 = mul-le-mul s l in
-      omega arith
-
--- ---- `elements`
-pub record Counted (f : List ℕ) (first j product : ℕ) : Type 0 where
-  pub is : product ≡ min (elements_of f first j) (2 ^ 32)
-  pub most : product ≤ 2 ^ 32
-
-module _ (f : List ℕ) (first : ℕ) where
-  pub none-counted : Counted f first 0 1
-  unfolding elements_of
-  none-counted = record { is = omega arith; most = omega arith }
-
-  pub one_more : {j p s : ℕ} → Counted f first j p → s ≡ dimension_span f (first + j) → {r : ℕ} → r ≡ min (p * s) (2 ^ 32) → Counted f first (j + 1) r
-  unfolding elements_of
-  one_more {j} {p} {s} i e {r} h =
-      record { is = h ∙ rw (add-one, ← e, i.is) (capped-first (2 ^ 32) (omega arith) (elements_of f first j) s); most = omega arith }
-
-  pub all-counted : {j p : ℕ} → Counted f first j p → (m : ℕ) → j ≤ m → m ≤ j → p ≡ min (elements_of f first m) (2 ^ 32)
-  all-counted {j} i m h l = let e : m ≡ j = omega arith in rw e i.is
+pub times-capped : (a b : ℕ) {p : ℕ} → p ≡ min (a * b) (2 ^ 64 - 1) → {r : ℕ} → r ≡ min p (2 ^ 32) → r ≡ min (a * b) (2 ^ 32)
+times-capped a b e h = omega (arith, e, h)
 
 -- ---- `entries_up_to`
 module _ (f : List ℕ) (left : ℕ) (s : Shape) where
@@ -98,4 +66,4 @@ module _ (f : List ℕ) (left : ℕ) (s : Shape) where
     entries-array {e} {first} {many} q {t} g {a} {b} i j {r} h =
         rw (step, q, ← g) (h ∙ rw (i, j) (capped-both (2 ^ 32) (omega arith) (elements_of f first many) (entries_up_to f (left - 1) t)))
 
-pub ruleset counting = (rules, times_zero, times-many, times-fit, none-counted, one_more, all-counted, entries_none, entries-one, entries-array)
+pub ruleset counting = (rules, times-capped, entries_none, entries-one, entries-array)

@@ -7,7 +7,7 @@ use Prim.Native.Nat.{ℕ, suc, ◌+◌, ◌-◌, ◌*◌, ◌%◌, ◌^◌, ◌�
 use native.Mathlib.Omega.{arith}
 use native.Mathlib.Nat.{add-zero, min-eq_left, min-le_right}
 use native.Mathlib.Numerals.{add-one}
-use lib.Dec.{eqb, ltb}
+use lib.Dec.{eqb}
 use lib.Ieee.{binary64, nan_bits}
 use borrow.Author.Rules.{rules}
 use borrow.Author.Tests.{eq-eqb, ne_eqb, lt-ltb, le-ltb, eqb-true, eqb-false, not-true, not-false}
@@ -28,7 +28,7 @@ use Rattle.definition.specs.Ask.{result_of}
 use Rattle.scalar.specs.String.{max_length_by, string_of, max-length-is}
 use Rattle.scalar.specs.Convert.{Counts}
 use Rattle.tree.specs.declared.node.Node.{Node}
-use Rattle.places.proofs.Steps.{Comes, goes_on, stops, ends}
+use Rattle.places.proofs.Steps.{Comes, starts_at, goes_further, stops_at, ends_at}
 use Rattle.memory_definition.specs.contracts.form.Form as form_types
 use Rattle.memory_definition.specs.declared.form.Form.{Form}
 use Rattle.memory_definition.specs.declared.form.Form.TheVariants as form
@@ -39,6 +39,8 @@ use Rattle.memory_laws.specs.Placed.{Placed, placed-bits, placed-base}
 use Rattle.memory_forms.specs.Cell.{node_of, cell_of}
 use Rattle.memory_forms.proofs.Forming.{unranged}
 use Rattle.std.specs.Prelude.{None, Option, Some}
+use Rattle.std.specs.Option.{is_some, option_eq}
+use Rattle.tree.specs.Part.{on_end}
 
 -- ---- `member_place`: the first places are passed, and the name is not theirs
 pub record Passed (f : List ℕ) (name first many place : ℕ) : Type 0 where
@@ -50,17 +52,17 @@ module _ (f : List ℕ) (name first many : ℕ) where
   none_passed = record { inside = omega arith; same = let e : many - 0 ≡ many = omega arith in rw (add-zero first, e) }
 
   module _ {place : ℕ} (x : Passed f name first many place) where
-    pub none_named : many ≤ place → pick (ltb many many) (suc (first + many)) 0 ≡ first_named f members name first many
+    pub none_named : many ≤ place → 0 ≡ first_named f members name first many
     unfolding first_named
-    none_named h = let e : many - place ≡ 0 = omega arith in rw (le-ltb many many (omega arith)) (rw e at x.same)
+    none_named h = let e : many - place ≡ 0 = omega arith in rw e at x.same
 
     module _ (h : place < many) {w : ℕ} (is : w ≡ word f members (first + place) 0) where
       left : many - place ≡ suc (many - suc place)
       left = omega arith
 
-      pub named_here : w ≡ name → pick (ltb place many) (suc (first + place)) 0 ≡ first_named f members name first many
+      pub named_here : w ≡ name → suc (first + place) ≡ first_named f members name first many
       unfolding first_named
-      named_here e = rw (lt-ltb place many h, ← x.same, left, ← is, eq-eqb w name e)
+      named_here e = rw (← x.same, left, ← is, eq-eqb w name e)
 
       pub one-passed : (w ≡ name → ⊥) → Passed f name first many (place + 1)
       unfolding first_named
@@ -78,9 +80,38 @@ module _ {kind : ℕ} (last : ℕ) where
   unfolding uncut_word
   other_word n = rw (ne_eqb kind 8 n)
 
-pub constant-made : (n : Node) {w : ℕ} → w ≡ uncut_word n.kind n.width → record { kind = n.kind; sign = n.sign; low = n.low; high = n.high; width = w } ≡ constant_on (node_of n)
+pub constant-made : (n : Node) {w : ℕ} → w ≡ uncut_word n.value.kind n.value.width → record { kind = n.value.kind; sign = n.value.sign; low = n.value.low; high = n.value.high; width = w } ≡ constant_on (node_of n)
 unfolding constant_on constant_of
 constant-made n e = rw e
+
+-- ---- constants that are equal
+turned : (a b : ℕ) → eqb a b ≡ eqb b a
+turned a b = go (eqb b a) refl
+  where
+    go : (t : Bool) → eqb b a ≡ t → eqb a b ≡ t
+    go true e = eq-eqb a b (sym (eqb-true b a e))
+    go false e = ne_eqb a b (λ q. let z = eqb-false b a e in z (sym q))
+
+-- constants are equal word by word
+abbrev equal : Constant → Constant → Bool
+equal c d = eqb c.kind d.kind && (eqb c.sign d.sign && (eqb c.low d.low && (eqb c.high d.high && eqb c.width d.width)))
+
+equal-same : (c d : Constant) → equal c d ≡ same_constant c d
+unfolding same_constant
+equal-same c d = go (eqb c.kind d.kind) (eqb c.sign d.sign) (eqb c.low d.low) (eqb c.high d.high)
+  where
+    e : Bool
+    e = eqb c.width d.width
+
+    go : (k s l h : Bool) → k && (s && (l && (h && e))) ≡ (k && s && l && h && e)
+    go true true true true = refl
+    go true true true false = refl
+    go true true false h = refl
+    go true false l h = refl
+    go false s l h = refl
+
+same-turned : (c d : Constant) → equal d c ≡ same_constant c d
+same-turned c d = rw (turned d.kind c.kind, turned d.sign c.sign, turned d.low c.low, turned d.high c.high, turned d.width c.width) (equal-same c d)
 
 -- ---- `unchanged_string`: with no character cut the last word is the width
 cut-shorter : (width : ℕ) (c : Constant) (most : ℕ) → most < c.high → same_constant c (cut_to width c most) ≡ false
@@ -126,12 +157,12 @@ module _ (f : List ℕ) (length width : ℕ) (c : Constant) {setting : ℕ} (is 
           go true = cut-shorter width c n l
           go false = refl
 
-      pub whole-string : c.high ≤ n → {d : Constant} → d ≡ string_of c.low c.high width → {b : Bool} → b ≡ same_constant c d → b ≡ unchanged f (shape.String length width) c
+      pub whole-string : c.high ≤ n → {d : Constant} → d ≡ string_of c.low c.high width → {b : Bool} → b ≡ equal c d → b ≡ unchanged f (shape.String length width) c
       whole-string l {d} q {b} s = sym (by_length {r = ok n} (rw e at h) ∙ ap (λ x. is_same c (pick (eqb c.kind 8) (ok x) none)) (cut-whole width c n l ∙ sym q) ∙ go (eqb c.kind 8) refl)
         where
           go : (k : Bool) → eqb c.kind 8 ≡ k → is_same c (pick k (ok d) none) ≡ b
-          go true k = sym s
-          go false k = sym (s ∙ rw q (no-string width c k))
+          go true k = sym (s ∙ equal-same c d)
+          go false k = sym (s ∙ equal-same c d ∙ rw q (no-string width c k))
 
 -- ---- `unchanged`
 pub as-string : (f : List ℕ) {s : Shape} (c : Constant) {length width : ℕ} → s ≡ shape.String length width → {b : Bool} → b ≡ unchanged f (shape.String length width) c → b ≡ unchanged f s c
@@ -145,27 +176,15 @@ stringless = 0 ∷ 1 ∷ 2 ∷ 3 ∷ 4 ∷ 5 ∷ 6 ∷ 7 ∷ 8 ∷ 10 ∷ 11 ∷
 pub nothing-counted : (s : Shape) (c : Constant) → OneOf stringless (tag_of shape_types.the_type s) → Counts s c
 nothing-counted s c h = record { of_string = λ length width e k. absurd (miss stringless 9 tt (rw e at h)) }
 
-module _ (f : List ℕ) (s : Shape) (c : Constant) {l : Option Constant} (is : result_of l ≡ converted f s c) where
-  pub same-value : {d : Constant} → l ≡ Some d → {b : Bool} → b ≡ same_constant c d → b ≡ unchanged f s c
-  unfolding unchanged
-  same-value e h = rw (← is, e) h
-
-  pub no_value_lem : l ≡ None → false ≡ unchanged f s c
-  unfolding unchanged
-  no_value_lem e = rw (← is, e)
+pub same-value : (f : List ℕ) (s : Shape) (c : Constant) (l : Option Constant) → result_of l ≡ converted f s c → {b : Bool} → b ≡ option_eq equal l (Some c) → b ≡ unchanged f s c
+unfolding unchanged
+same-value f s c l is h = rw (← is) (h ∙ go l)
+  where
+    go : (m : Option Constant) → option_eq equal m (Some c) ≡ is_same c (result_of m)
+    go (Some d) = same-turned c d
+    go None = refl
 
 -- ---- `fits_up_to`
--- of n steps j are made
-module _ {A B : Type 0} {g : ℕ → A → B} {n j : ℕ} {x : A} {b : B} (i : Comes g (n - j) x b) where
-  pub goes_further : {y : A} → j < n → ((k : ℕ) → g (suc k) x ≡ g k y) → Comes g (n - (j + 1)) y b
-  goes_further l h = let e : n - j - 1 ≡ n - (j + 1) = omega arith in rw e at (goes_on i (omega arith) h)
-
-  pub stops_at : {r : B} → j < n → ((k : ℕ) → r ≡ g (suc k) x) → r ≡ b
-  stops_at l h = stops i (omega arith) h
-
-  pub ends_at : {r : B} → n ≤ j → r ≡ g 0 x → r ≡ b
-  ends_at l h = ends i (omega arith) h
-
 pub base-placed : {f : List ℕ} {s : Shape} → Placed f s → {base low high : ℕ} → s ≡ shape.Subrange base low high → {t : Shape} → t ≡ shape_at f base → Placed f t
 base-placed p q g = rw g (placed-base p q)
 
@@ -191,7 +210,7 @@ no-base shape.Unknown g h = refl
 
 module _ (f : List ℕ) (s : Shape) (c : Constant) where
   pub fits-starts : (most : ℕ) → Comes (λ k x. fits_up_to f k x c) (most - 0) s (fits_up_to f most s c)
-  fits-starts most = let all : most - 0 ≡ most = omega arith in record { same = rw all }
+  fits-starts most = starts_at (λ k x. fits_up_to f k x c) most s refl
 
   pub fits-ends : false ≡ fits_up_to f 0 s c
   unfolding fits_up_to
@@ -284,15 +303,15 @@ module _ (f : List ℕ) (n : Node) where
   no-head shape.Unknown h = refl
 
   module _ {s : Shape} where
-    pub structure-head : {first many : ℕ} → s ≡ shape.Structure first many → (eqb n.kind 14 && eqb n.low many) ≡ held_head f (cell_of s n)
+    pub structure-head : {first many : ℕ} → s ≡ shape.Structure first many → (eqb n.value.kind 14 && eqb n.value.low many) ≡ held_head f (cell_of s n)
     unfolding held_head
     structure-head e = rw e
 
-    pub array_head : {e first many : ℕ} → s ≡ shape.Array e first many → {b : Bool} → b ≡ (eqb n.kind 13 && eqb n.low (entries_of f s)) → b ≡ held_head f (cell_of s n)
+    pub array_head : {e first many : ℕ} → s ≡ shape.Array e first many → {b : Bool} → b ≡ (eqb n.value.kind 13 && eqb n.value.low (entries_of f s)) → b ≡ held_head f (cell_of s n)
     unfolding held_head
     array_head e h = rw e (rw e at h)
 
-    pub block-head : {name : ℕ} → s ≡ shape.FunctionBlock name → eqb n.kind 14 ≡ held_head f (cell_of s n)
+    pub block-head : {name : ℕ} → s ≡ shape.FunctionBlock name → eqb n.value.kind 14 ≡ held_head f (cell_of s n)
     unfolding held_head
     block-head e = rw e
 
@@ -303,23 +322,23 @@ module _ (f : List ℕ) (low first many : ℕ) {kind : ℕ} where
   pub no_member : (kind ≡ 9 → ⊥) → false ≡ (eqb kind 9 && not (eqb (link f low first many) 0))
   no_member n = rw (ne_eqb kind 9 n)
 
-  pub a-member : kind ≡ 9 → (place : ℕ) → pick (ltb place many) (suc (first + place)) 0 ≡ link f low first many → ltb place many ≡ (eqb kind 9 && not (eqb (link f low first many) 0))
-  a-member k place h = rw (eq-eqb kind 9 k, ← h) (go (ltb place many))
+  pub a-member : kind ≡ 9 → (place : Option ℕ) → on_end place (λ p. suc (first + p)) 0 ≡ link f low first many → is_some place ≡ (eqb kind 9 && not (eqb (link f low first many) 0))
+  a-member k place h = rw (eq-eqb kind 9 k, ← h) (go place)
     where
-      go : (b : Bool) → b ≡ not (eqb (pick b (suc (first + place)) 0) 0)
-      go true = rw (ne_eqb (suc (first + place)) 0 (λ e. omega arith))
-      go false = refl
+      go : (p : Option ℕ) → is_some p ≡ not (eqb (on_end p (λ q. suc (first + q)) 0) 0)
+      go (Some p) = rw (ne_eqb (suc (first + p)) 0 (λ e. omega arith))
+      go None = refl
 
 -- ---- `held`
 abbrev constants : List ℕ
 constants = 2 ∷ 3 ∷ 5 ∷ 6 ∷ []
 
-module _ (f : List ℕ) (s : Shape) (n : Node) {x : Form} (is : x ≡ form_at f s n.kind) where
+module _ (f : List ℕ) (s : Shape) (n : Node) {x : Form} (is : x ≡ form_at f s n.value.kind) where
   by_form : held f (cell_of s n) ≡ held_as f x (cell_of s n)
   unfolding held form_of
   by_form = rw (← is)
 
-  pub held-null : x ≡ form.Null → eqb n.kind 10 ≡ held f (cell_of s n)
+  pub held-null : x ≡ form.Null → eqb n.value.kind 10 ≡ held f (cell_of s n)
   unfolding held_as
   held-null e = rw (by_form, e)
 
@@ -335,7 +354,7 @@ module _ (f : List ℕ) (s : Shape) (n : Node) {x : Form} (is : x ≡ form_at f 
     pub held-as-real : x ≡ form.Real → b ≡ held_as f form.Real (cell_of s n) → b ≡ held f (cell_of s n)
     held-as-real e h = rw (by_form, e) h
 
-    pub held-as-member : {first many : ℕ} → x ≡ form.Enumeration first many → b ≡ (eqb n.kind 9 && not (eqb (first_named f members n.low first many) 0)) → b ≡ held f (cell_of s n)
+    pub held-as-member : {first many : ℕ} → x ≡ form.Enumeration first many → b ≡ (eqb n.value.kind 9 && not (eqb (first_named f members n.value.low first many) 0)) → b ≡ held f (cell_of s n)
     unfolding held_as member_link
     held-as-member e h = rw (by_form, e) h
 
@@ -356,4 +375,4 @@ module _ (f : List ℕ) (s : Shape) (n : Node) {x : Form} (is : x ≡ form_at f 
 
 pub ruleset naming = (rules, opened, none_passed, none_named, named_here, one-passed)
 
-pub ruleset holding = (rules, opened, not-true, not-false, goes_further, stops_at, ends_at, string-word, other_word, constant-made, no_length, too_long, whole-string, as-string, nothing-counted, same-value, no_value_lem, placed-bits, base-placed, fits-starts, fits-ends, changed, fits_whole, fits-base, not_plain, plain_fits, no-real, a-real, no-array, an-array, no-head, structure-head, array_head, block-head, no_member, a-member, held-null, held-nothing, held-as-head, held-as-real, held-as-member, held-as-constant)
+pub ruleset holding = (rules, opened, not-true, not-false, goes_further, stops_at, ends_at, string-word, other_word, constant-made, no_length, too_long, whole-string, as-string, nothing-counted, same-value, placed-bits, base-placed, fits-starts, fits-ends, changed, fits_whole, fits-base, not_plain, plain_fits, no-real, a-real, no-array, an-array, no-head, structure-head, array_head, block-head, no_member, a-member, held-null, held-nothing, held-as-head, held-as-real, held-as-member, held-as-constant)

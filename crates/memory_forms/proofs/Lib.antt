@@ -1,3 +1,4 @@
 pub mod Forming
 pub mod Counting
 pub mod Holding
+pub mod Celling

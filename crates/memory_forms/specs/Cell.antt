@@ -5,7 +5,7 @@ use Rattle.tree.specs.declared.node.Node.{Node}
 use Rattle.memory_definition.specs.Cells.{Cell, cell}
 
 abbrev pub node_of : Node → definition.Node
-node_of n = record { name = n.name; kind = n.kind; sign = n.sign; low = n.low; high = n.high; width = n.width }
+node_of n = record { name = n.name; kind = n.value.kind; sign = n.value.sign; low = n.value.low; high = n.value.high; width = n.value.width }
 
 abbrev pub cell_of : Shape → Node → Cell
 cell_of s n = cell s (node_of n)

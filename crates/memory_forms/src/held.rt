@@ -10,7 +10,7 @@ ghost use Rattle.laws.specs.Bits.{Bits};
 ghost use Rattle.memory_definition.specs.declared.form.Form.TheVariants as form;
 ghost use Rattle.memory_definition.specs.Cells as Cells;
 ghost use Rattle.memory_definition.specs.Forms as Forms;
-ghost use Rattle.memory_definition.specs.Forms.{constant_on, same_constant, fits_up_to, held_constant, held_head};
+ghost use Rattle.memory_definition.specs.Forms.{constant_on, fits_up_to, held_constant, held_head};
 ghost use Rattle.memory_laws.specs.Placed.{Placed};
 ghost use Rattle.memory_forms.specs.Cell.{node_of, cell_of};
 
@@ -42,24 +42,11 @@ fn uncut_word(kind: u32, last: u32) -> u32
 pub fn constant_on(node: Node) -> Constant
     ensures { result ≡ constant_on (node_of node) }
 {
+    let c = node.value;
     Constant {
-        kind: node.kind,
-        sign: node.sign,
-        low: node.low,
-        high: node.high,
-        width: uncut_word(node.kind, node.width),
+        width: uncut_word(c.kind, c.width),
+        ..c
     }
-}
-
-#[tactic(auto, using(crate::proofs::Holding::holding), unfolding(memory_definition::specs::Forms::same_constant))]
-fn same(c: Constant, d: Constant) -> bool
-    ensures { result ≡ same_constant c d }
-{
-    (c.kind == d.kind)
-        & (c.sign == d.sign)
-        & (c.low == d.low)
-        & (c.high == d.high)
-        & (c.width == d.width)
 }
 
 // A string whose place holds all its characters and has its width. `converted` counts the characters cut in a word, which a node's may not fit.
@@ -73,7 +60,7 @@ fn unchanged_string(file: &Source<'_>, length: u32, width: u32, c: Constant) -> 
     if most < c.high {
         return false;
     }
-    same(c, string_constant(c.low, c.high, width))
+    c == string_constant(c.low, c.high, width)
 }
 
 // Conversion to the shape returns it unchanged.
@@ -83,10 +70,7 @@ fn unchanged(file: &Source<'_>, shape: Shape, c: Constant) -> bool
 {
     match shape {
         Shape::String { length, width } => unchanged_string(file, length, width, c),
-        _ => match converted(file, shape, c) {
-            Some(d) => same(c, d),
-            _ => false,
-        },
+        _ => converted(file, shape, c) == Some(c),
     }
 }
 
@@ -136,42 +120,42 @@ fn held_real(file: &Source<'_>, shape: Shape, node: Node) -> bool
 }
 
 fn held_array(file: &Source<'_>, shape: Shape, node: Node) -> bool
-    ensures { result ≡ eqb node.kind 13 && eqb node.low (Cells.entries_of file.now shape) }
+    ensures { result ≡ eqb node.value.kind 13 && eqb node.value.low (Cells.entries_of file.now shape) }
 {
-    if node.kind != 13 {
+    if node.value.kind != 13 {
         return false;
     }
     let left = file.count(SHAPES) as usize;
-    node.low as u64 == entries_up_to(file, left, shape)
+    node.value.low as u64 == entries_up_to(file, left, shape)
 }
 
 fn held_head(file: &Source<'_>, shape: Shape, node: Node) -> bool
     ensures { result ≡ held_head file.now (cell_of shape node) }
 {
     match shape {
-        Shape::Structure { first: _, count } => (node.kind == 14) & (node.low == count),
+        Shape::Structure { first: _, count } => (node.value.kind == 14) & (node.value.low == count),
         Shape::Array { .. } => held_array(file, shape, node),
-        Shape::FunctionBlock { .. } => node.kind == 14,
+        Shape::FunctionBlock { .. } => node.value.kind == 14,
         _ => false,
     }
 }
 
 fn held_member(file: &Source<'_>, first: u32, many: u32, node: Node) -> bool
-    ensures { result ≡ eqb node.kind 9 && not (eqb (first_named file.now members node.low first many) 0) }
+    ensures { result ≡ eqb node.value.kind 9 && not (eqb (first_named file.now members node.value.low first many) 0) }
 {
-    if node.kind != 9 {
+    if node.value.kind != 9 {
         return false;
     }
-    member_place(file, node.low, first, many) < many
+    member_place(file, node.value.low, first, many).is_some()
 }
 
 pub fn held(file: &Source<'_>, shape: Shape, node: Node) -> bool
     requires { Placed file.now shape }
     ensures { result ≡ Forms.held file.now (cell_of shape node) }
 {
-    match form_of(file, shape, node.kind) {
+    match form_of(file, shape, node.value.kind) {
         Form::Head => held_head(file, shape, node),
-        Form::Null => node.kind == 10,
+        Form::Null => node.value.kind == 10,
         Form::Real => held_real(file, shape, node),
         Form::Enumeration { first, count } => held_member(file, first, count, node),
         Form::Nothing => false,

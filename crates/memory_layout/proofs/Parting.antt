@@ -1,5 +1,5 @@
 -- A law for each return of parts.rt, and what its calls require. Assumes nothing.
-use mathlib.Core.Path.{◌≡◌, refl, ap, sym, ◌∙◌}
+use mathlib.Core.Path.{◌≡◌, refl, ap, sym, ◌∙◌, subst}
 use mathlib.Core.List.{List, [], ◌∷◌}
 use Prim.Native.Nat.{ℕ, ◌+◌}
 use lib.Dec.{eqb}
@@ -24,6 +24,7 @@ use Rattle.places.proofs.Others.{NoArray, no-array}
 use Rattle.memory_definition.specs.Cells.{nowhere, place_or, part_place}
 use Rattle.memory_layout.specs.Parts.{Located, entries_place}
 use Rattle.std.specs.Prelude.{None, Option, Some}
+use Rattle.std.specs.Option.{unwrap_or}
 
 -- ---- places of the file, and nowhere
 pub nowhere-is : {r : Place} → r ≡ bare shape.Unknown → r ≡ nowhere
@@ -48,15 +49,14 @@ module _ {f : List ℕ} {place : Place} (l : Located f place) where
   block_inside e = l.inside (rw e refl)
 
 -- ---- `named_part`
-module _ (f : List ℕ) (place : Place) (name : ℕ) {r : Option Place} (h : result_of r ≡ field_place f place name) where
-  pub field-there : {p : Place} → r ≡ Some p → p ≡ place_or (field_place f place name)
-  field-there e = rw (← h, e)
+module _ (f : List ℕ) (place : Place) (name : ℕ) {n : Place} (lost : n ≡ nowhere) {p : Place} where
+  pub field-there : (r : Option Place) → result_of r ≡ field_place f place name → p ≡ unwrap_or r n → p ≡ place_or (field_place f place name)
+  field-there (Some q) h e = e ∙ rw (← h) refl
+  field-there None h e = e ∙ lost ∙ rw (← h) refl
 
-  pub field-located : Accepted f → PlaceIn f place → {p : Place} → r ≡ Some p → Located f p
-  field-located a i e = place-located (field_found f a place name i h e)
-
-  pub field-lost : r ≡ None → {p : Place} → p ≡ nowhere → p ≡ place_or (field_place f place name)
-  field-lost e q = rw (← h, e) q
+  pub field-located : Accepted f → PlaceIn f place → (r : Option Place) → result_of r ≡ field_place f place name → p ≡ unwrap_or r n → Located f p
+  field-located a i (Some q) h e = subst (Located f) (sym e) (place-located (field_found f a place name i {r = Some q} h refl))
+  field-located a i None h e = nowhere-located f (e ∙ lost)
 
 -- ---- `entries_place`
 module _ (f : List ℕ) (place : Place) where
@@ -115,4 +115,4 @@ module _ (f : List ℕ) (place : Place) (k name : ℕ) where
     entry-located a l = rw entry-is (place-located (leaf-in f a place (array-inside l e)))
 
 pub ruleset laws =
-    (rules, nowhere-is, nowhere-located, place-located, structure-inside, array-inside, block_inside, field-there, field-located, field-lost, entries-array, entries-other, of_field, of-another, of-block, of_other, of_array, entry-located)
+    (rules, nowhere-is, nowhere-located, place-located, structure-inside, array-inside, block_inside, field-there, field-located, entries-array, entries-other, of_field, of-another, of-block, of_other, of_array, entry-located)

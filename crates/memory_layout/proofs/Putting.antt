@@ -1,17 +1,17 @@
 -- A shape's words, put at a place. Assumes nothing.
-use mathlib.Core.Path.{◌≡◌, refl, ap, sym, ◌∙◌}
-use mathlib.Core.List.{List, [], ◌∷◌, ◌++◌}
-use Prim.Native.Nat.{ℕ, ◌+◌, ◌≤◌}
+use mathlib.Core.Path.{◌≡◌, ap, sym, ◌∙◌}
+use mathlib.Core.List.{List, ◌++◌}
+use Prim.Native.Nat.{ℕ, ◌+◌, ◌≤◌, ◌<◌}
 use native.Mathlib.Omega.{arith}
 use native.Mathlib.Nat.{add-zero}
-use lib.ListN.{length, get_or, set, drop, length-set}
-use lib.Seq.{get_or-drop, get_or-set_other}
-use Rattle.definition.specs.declared.records.Shape.{Shape}
-use Rattle.definition.specs.Records.{shape_of}
+use lib.ListN.{length, get_or, take, drop, length-append, length-take, length-drop}
+use borrow.Author.Rules.{rules}
+use lib.Seq.{get_or-drop}
+use Rattle.std.proofs.lemmas.List.{get_or-take, get_or_append_left, get_or-append-add}
 use Rattle.tree.specs.Words.{Stand}
 use Rattle.tree.proofs.Stands.{stand-rest}
-use Rattle.tree.proofs.Writes.{six-stores}
-use Rattle.tree.proofs.Standing.{paste-stands}
+use Rattle.definition.specs.declared.records.Shape.{Shape}
+use Rattle.memory_laws.specs.InWords.{shape_in}
 use Rattle.memory_layout.specs.Words.{Before, Put}
 
 -- the words of the shape that was met
@@ -22,30 +22,40 @@ joined e h = h ∙ sym e
 pub word-there : {s : List ℕ} {at : ℕ} {ws : List ℕ} {end : ℕ} → Stand s at ws end → (k : ℕ) → get_or s (at + k) 0 ≡ get_or (ws ++ drop end s) k 0
 word-there {s} {at} x k = sym (get_or-drop at s k 0) ∙ ap (λ (l : List ℕ). get_or l k 0) (stand-rest x)
 
--- words that are put at a place or behind it
-before-set : {at : ℕ} {old l : List ℕ} → Before at old l → (i v : ℕ) → at ≤ i → Before at old (set l i v)
-before-set {at} {old} {l} b i v h =
-    record { long = length-set l i v ∙ b.long; same = λ j n. get_or-set_other l i j v 0 (λ q. omega arith) ∙ b.same j n }
+module _ (old : List ℕ) (at : ℕ) (h : at + 6 ≤ length old) where
+  front : length (take at old) ≡ at
+  front = omega (arith, length-take at old)
 
-module _ (old : List ℕ) (at a b c d e g : ℕ) (h : at + 6 ≤ length old) where
-  abbrev stored : List ℕ
-  stored = set (set (set (set (set (set old at a) (at + 1) b) (at + 2) c) (at + 3) d) (at + 4) e) (at + 5) g
+module _ (old : List ℕ) (at : ℕ) (h : at + 6 ≤ length old) (w : List ℕ) (six : length w ≡ 6) where
+  long : length (take at old ++ w) ≡ at + 6
+  long = omega (arith, length-append (take at old) w, front old at h, six)
 
-  stored-before : Before at old stored
-  stored-before =
-      let s : Before at old old = record { long = refl; same = λ i n. refl } in
-      let s₀ = before-set s at a (omega arith) in
-      let s₁ = before-set s₀ (at + 1) b (omega arith) in
-      let s₂ = before-set s₁ (at + 2) c (omega arith) in
-      let s₃ = before-set s₂ (at + 3) d (omega arith) in
-      let s₄ = before-set s₃ (at + 4) e (omega arith) in
-      before-set s₄ (at + 5) g (omega arith)
+  at-front : (i : ℕ) → i < at → get_or (take at old ++ w ++ drop (at + 6) old) i 0 ≡ get_or old i 0
+  at-front i l =
+      get_or_append_left (take at old ++ w) (drop (at + 6) old) 0 i (omega (arith, long)) ∙ get_or_append_left (take at old) w 0 i (omega (arith, front old at h)) ∙ get_or-take at old i 0 l
 
-  stored-stand : Stand stored at (a ∷ b ∷ c ∷ d ∷ e ∷ g ∷ []) (at + 6)
-  stored-stand = paste-stands old at (a ∷ b ∷ c ∷ d ∷ e ∷ g ∷ []) 6 h (omega arith) (six-stores old at a b c d e g h)
+  at-place : (k : ℕ) → k < 6 → get_or (take at old ++ w ++ drop (at + 6) old) (at + k) 0 ≡ get_or w k 0
+  at-place k l =
+      get_or_append_left (take at old ++ w) (drop (at + 6) old) 0 (at + k) (omega (arith, long))
+      ∙ ap (λ (n : ℕ). get_or (take at old ++ w) (n + k) 0) (sym (front old at h))
+      ∙ get_or-append-add (take at old) w k 0
 
-  pub shape-put : {s : Shape} → shape_of a b c d e ≡ s → Put s at old stored
+  all-long : length (take at old ++ w ++ drop (at + 6) old) ≡ length old
+  all-long = omega (arith, length-append (take at old ++ w) (drop (at + 6) old), long, length-drop (at + 6) old)
+
+module _ (old : List ℕ) (at : ℕ) (h : at + 6 ≤ length old) (w : List ℕ) (six : length w ≡ 6) {new : List ℕ} (e : new ≡ take at old ++ w ++ drop (at + 6) old) where
+  before : Before at old new
+  before = record { long = ap length e ∙ all-long old at h w six; same = λ i l. ap (λ (x : List ℕ). get_or x i 0) e ∙ at-front old at h w six i l }
+
+  there : (k : ℕ) → k < 6 → get_or new (at + k) 0 ≡ get_or w k 0
+  there k l = ap (λ (x : List ℕ). get_or x (at + k) 0) e ∙ at-place old at h w six k l
+
+  pub shape-put : {s : Shape} → shape_in w 0 ≡ s → Put s at old new
   shape-put q =
-      let x = stored-stand in
-      let n : get_or stored at 0 ≡ a = rw add-zero at (word-there x 0) in
-      record { kept = stored-before; is = rw (n, word-there x 1, word-there x 2, word-there x 3, word-there x 4) q }
+      let n : get_or new at 0 ≡ get_or w 0 0 = rw add-zero at (there 0 (omega arith)) in
+      record {
+        kept = before;
+        is = rw (n, there 1 (omega arith), there 2 (omega arith), there 3 (omega arith), there 4 (omega arith)) q;
+      }
+
+pub ruleset putting = (rules, shape-put)

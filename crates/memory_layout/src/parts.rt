@@ -27,11 +27,7 @@ fn named_part(file: &File<'_>, classes: &[u32], place: Place, name: u32) -> Plac
     ensures is { result ≡ place_or (field_place file.now.source place name) }
     ensures located { Located file.now.source result }
 {
-    let found = field_place(file, classes, place, name);
-    match found {
-        Some(part) => part,
-        None => nowhere(),
-    }
+    field_place(file, classes, place, name).unwrap_or(nowhere())
 }
 
 // The place of all entries of an array, worked out once; that of anything else is not looked at.

@@ -1,17 +1,23 @@
 -- A law for each return of readable.rt. Assumes nothing.
+use borrow.Enum.Refused.{opened}
 use mathlib.Core.Path.{◌≡◌, refl, ap, sym, subst, ◌∙◌}
+use types.Run.{OneOf, miss}
+use denote.Enum.Declared.{tag_of}
+use Rattle.memory_definition.specs.contracts.form.Form.{the_type}
+use Rattle.std.specs.Prelude.{Option, Some, None}
+use Rattle.std.specs.Option.{unwrap_or}
+use Rattle.tree.specs.Part.{on_end}
 use mathlib.Core.Bool.{Bool, true, false, not, ◌&&◌}
-use mathlib.Core.List.{List}
+use mathlib.Core.List.{List, [], ◌∷◌}
 use Prim.Native.Nat.{ℕ, suc, ◌+◌, ◌-◌, ◌*◌, ◌%◌, ◌≤◌, ◌<◌}
 use native.Mathlib.Omega.{arith}
 use native.Mathlib.Nat.{mul-le-mul_left}
-use lib.Dec.{eqb, ltb}
-use lib.ListN.{length, get_or, take, drop, length-take, length-drop}
+use lib.Dec.{eqb}
+use lib.ListN.{length, take, drop, length-take, length-drop}
 use lib.Seq.{take-take, drop-drop}
 use borrow.Author.Rules.{rules}
-use borrow.Author.Tests.{eq-eqb, ne_eqb, le-leb, lt-leb, lt-ltb, le-ltb, not-true, not-false}
-use Rattle.definition.specs.declared.records.Shape.{Shape}
-use Rattle.definition.specs.Base.{pick, unused}
+use borrow.Author.Tests.{eq-eqb, ne_eqb, le-leb, lt-leb, not-true, not-false}
+use Rattle.definition.specs.Base.{unused}
 use Rattle.definition.specs.Layout.{members}
 use Rattle.definition.specs.Places.{first_named}
 use Rattle.tree.specs.declared.node.Node.{Node}
@@ -22,21 +28,20 @@ use Rattle.memory_definition.specs.Cells.{Cell, cell}
 use Rattle.memory_definition.specs.Numbers.{number_from, character_bytes}
 use Rattle.memory_definition.specs.Forms.{form_of, size_as, node_as, node_read, held, readable}
 use Rattle.memory_laws.specs.Bytes.{Bytes, bytes_take, bytes_drop}
-use Rattle.memory_laws.specs.InWords.{shape_in, cell_in}
 use Rattle.memory_forms.specs.Cell.{cell_of}
 use Rattle.memory_laws.specs.Placed.{Placed}
 use Rattle.memory_laws.specs.Same.{SizedAs}
 use Rattle.memory_nodes.specs.Readable.{string_fills, fills, readable_by, readable-by}
-use Rattle.memory_nodes.specs.Reading.{own, seen, read-seen, Stands, drop-take, length-own}
+use Rattle.memory_nodes.specs.Reading.{own, seen, read-seen, Formed, drop-take, length-own}
 use Rattle.memory_nodes.proofs.Nodes.{string-room, member-room}
 
 -- ---- a member's place
-module _ {place : ℕ} (many first link : ℕ) (e : pick (ltb place many) (suc (first + place)) 0 ≡ link) where
-  pub place_found : place < many → place ≡ link - suc first
-  place_found h = let q : suc (first + place) ≡ link = rw (lt-ltb place many h) at e in omega (arith, q)
-
-  pub place_none : many ≤ place → 0 ≡ link - suc first
-  place_none h = let q : ◌≡◌ {A = ℕ} 0 link = rw (le-ltb place many h) at e in omega (arith, q)
+pub place-first : (first link : ℕ) (place : Option ℕ) → on_end place (λ p. suc (first + p)) 0 ≡ link → {r : ℕ} → r ≡ unwrap_or place 0 → r ≡ link - suc first
+place-first first link place e h = h ∙ rw (← e) (go place)
+  where
+    go : (o : Option ℕ) → unwrap_or o 0 ≡ on_end o (λ p. suc (first + p)) 0 - suc first
+    go (Some p) = omega arith
+    go None = omega arith
 
 -- ---- strings
 module _ (bytes : List ℕ) (from most width : ℕ) where
@@ -80,29 +85,9 @@ unfolding size_as
 null-room fm from h e = rw e at h
 
 module _ (f : List ℕ) (fm : Form) (low : ℕ) (bytes : List ℕ) (from : ℕ) where
-  pub fills-head : fm ≡ form.Head → true ≡ fills f fm low (own fm bytes from)
-  unfolding fills
-  fills-head e = rw e
-
   pub fills-null : fm ≡ form.Null → {n : ℕ} → n ≡ number_from (take 4 (drop from bytes)) → eqb n 0 ≡ fills f fm low (own fm bytes from)
   unfolding fills size_as
   fills-null e i = rw (e, i)
-
-  pub fills-bool : fm ≡ form.Bool → true ≡ fills f fm low (own fm bytes from)
-  unfolding fills
-  fills-bool e = rw e
-
-  pub fills-number : {signed : Bool} {bits kind width : ℕ} → fm ≡ form.Number signed bits kind width → true ≡ fills f fm low (own fm bytes from)
-  unfolding fills
-  fills-number e = rw e
-
-  pub fills-real : fm ≡ form.Real → true ≡ fills f fm low (own fm bytes from)
-  unfolding fills
-  fills-real e = rw e
-
-  pub fills-long : fm ≡ form.LongReal → true ≡ fills f fm low (own fm bytes from)
-  unfolding fills
-  fills-long e = rw e
 
   pub fills-string : {most width : ℕ} → fm ≡ form.String most width → {r : Bool} → r ≡ string_fills most width (take (4 + character_bytes width * most) (drop from bytes)) → r ≡ fills f fm low (own fm bytes from)
   unfolding fills size_as
@@ -116,6 +101,22 @@ module _ (f : List ℕ) (fm : Form) (low : ℕ) (bytes : List ℕ) (from : ℕ) 
   pub fills-nothing : fm ≡ form.Nothing → false ≡ fills f fm low (own fm bytes from)
   unfolding fills
   fills-nothing e = rw e
+
+-- every form that asks nothing of its bytes
+abbrev free : List ℕ
+free = 0 ∷ 2 ∷ 3 ∷ 4 ∷ 5 ∷ []
+
+pub fills-other : (f : List ℕ) (fm : Form) (low : ℕ) (bs : List ℕ) → OneOf free (tag_of the_type fm) → true ≡ fills f fm low bs
+unfolding fills
+fills-other f form.Head low bs h = refl
+fills-other f form.Null low bs h = absurd (miss free 1 tt h)
+fills-other f form.Bool low bs h = refl
+fills-other f (form.Number signed bits kind width) low bs h = refl
+fills-other f form.Real low bs h = refl
+fills-other f form.LongReal low bs h = refl
+fills-other f (form.String most width) low bs h = absurd (miss free 6 tt h)
+fills-other f (form.Enumeration first count) low bs h = absurd (miss free 7 tt h)
+fills-other f form.Nothing low bs h = absurd (miss free 8 tt h)
 
 -- ---- the node
 and_no : (a b : Bool) → b ≡ false → a && b ≡ false
@@ -132,45 +133,45 @@ own-by f c fm e p bytes from b =
     readable-by f c bs (bytes_take (size_as (form_of f c)) (drop from bytes) (bytes_drop from bytes b)) q (omega (arith, length-take (size_as (form_of f c)) (drop from bytes))))
     p
 
-pub shape-placed : {f tree shapes : List ℕ} {at : ℕ} {fm : Form} → Stands f tree shapes at fm → {sh : Shape} → sh ≡ shape_in shapes at → Placed f sh
-shape-placed s e = rw e s.placed
+pub cell-placed : {f : List ℕ} {c : Cell} {fm : Form} → Formed f c fm → Placed f c.shape
+cell-placed s = s.placed
 
-module _ {f tree shapes : List ℕ} {at : ℕ} {fm : Form} (s : Stands f tree shapes at fm) (bytes : List ℕ) (from : ℕ) (b : Bytes bytes) where
+module _ {f : List ℕ} {c : Cell} {fm : Form} (s : Formed f c fm) (bytes : List ℕ) (from : ℕ) (b : Bytes bytes) where
   abbrev bs : List ℕ
   bs = own fm bytes from
 
   abbrev there : Cell
-  there = cell (shape_in shapes at) (node_as f fm 0 (cell_in tree shapes at) bs)
+  there = cell c.shape (node_as f fm 0 c bs)
 
-  pub own_is : readable f (cell_in tree shapes at) bs ≡ held f there && (eqb (length bs) (size_as fm) && fills f fm there.node.low bs)
+  pub own_is : readable f c bs ≡ held f there && (eqb (length bs) (size_as fm) && fills f fm there.node.low bs)
   unfolding readable_by
-  own_is = own-by f (cell_in tree shapes at) fm s.form s.sized bytes from b
+  own_is = own-by f c fm s.form s.sized bytes from b
 
-  pub too_short : {size : ℕ} → size ≡ size_as fm → length bytes - from < size → false ≡ readable f (cell_in tree shapes at) bs
+  pub too_short : {size : ℕ} → size ≡ size_as fm → length bytes - from < size → false ≡ readable f c bs
   too_short {size} e h =
       let l : length bs < size_as fm = omega (arith, length-take (size_as fm) (drop from bytes), length-drop from bytes) in
       let n : eqb (length bs) (size_as fm) ≡ false = ne_eqb (length bs) (size_as fm) (λ q. omega (arith, l, q)) in
       sym (own_is ∙ and_no (held f there) _ (rw n))
 
-  module _ {read : Node} {sh : Shape} (j : sh ≡ shape_in shapes at) (k : read ≡ as_node (node_as f fm 0 (seen (get_or tree (at + 1) 0) (get_or tree (at + 3) 0)) bs)) where
-    stands-there : cell_of sh read ≡ there
-    stands-there = ap (λ s. cell_of s read) j ∙ ap (cell_of (shape_in shapes at)) (k ∙ ap as_node (read-seen f fm 0 (cell_in tree shapes at) bs))
+  module _ {read : Node} (k : read ≡ as_node (node_as f fm 0 (seen c.node.kind c.node.low) bs)) where
+    stands-there : cell_of c.shape read ≡ there
+    stands-there = ap (cell_of c.shape) (k ∙ ap as_node (read-seen f fm 0 c bs))
 
-    pub not-held : {h : Bool} → h ≡ held f (cell_of sh read) → not h ≡ true → false ≡ readable f (cell_in tree shapes at) bs
+    pub not-held : {h : Bool} → h ≡ held f (cell_of c.shape read) → not h ≡ true → false ≡ readable f c bs
     not-held {h} e n = sym (own_is ∙ rw (sym (e ∙ ap (held f) stands-there) ∙ not-true h n))
 
-    pub held-fills : {h r : Bool} → h ≡ held f (cell_of sh read) → not h ≡ false → from + size_as fm ≤ length bytes → r ≡ fills f fm read.low bs → r ≡ readable f (cell_in tree shapes at) bs
+    pub held-fills : {h r : Bool} → h ≡ held f (cell_of c.shape read) → not h ≡ false → from + size_as fm ≤ length bytes → r ≡ fills f fm read.value.low bs → r ≡ readable f c bs
     held-fills {h} {r} e n l z =
         let long : length bs ≡ size_as fm = omega (arith, length-take (size_as fm) (drop from bytes), length-drop from bytes) in
-        z ∙ ap (λ c. fills f fm c.node.low bs) stands-there ∙ sym (own_is ∙ rw (sym (e ∙ ap (held f) stands-there) ∙ not-false h n, eq-eqb (length bs) (size_as fm) long))
+        z ∙ ap (λ d. fills f fm d.node.low bs) stands-there ∙ sym (own_is ∙ rw (sym (e ∙ ap (held f) stands-there) ∙ not-false h n, eq-eqb (length bs) (size_as fm) long))
 
 pub own_room : (fm : Form) (from l : ℕ) {size : ℕ} → size ≡ size_as fm → from ≤ l → size ≤ l - from → from + size_as fm ≤ l
 own_room fm from l e g h = omega (arith, e)
 
-pub ruleset places = (rules, place_found, place_none)
+pub ruleset places = (rules, place-first)
 
 pub ruleset strings = (rules, other-most, too_long, zeros-behind, zeros-room)
 
-pub ruleset fillings = (rules, null-room, string-room, member-room, fills-head, fills-null, fills-bool, fills-number, fills-real, fills-long, fills-string, fills-member, fills-nothing)
+pub ruleset fillings = (rules, opened, null-room, string-room, member-room, fills-null, fills-string, fills-member, fills-nothing, fills-other)
 
-pub ruleset readables = (rules, shape-placed, too_short, not-held, held-fills, own_room)
+pub ruleset readables = (rules, cell-placed, too_short, not-held, held-fills, own_room)

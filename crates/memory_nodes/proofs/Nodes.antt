@@ -13,7 +13,7 @@ use Rattle.definition.specs.Base.{pick}
 use Rattle.definition.specs.Layout.{word, members}
 use Rattle.definition.specs.Records.{constant_of}
 use Rattle.tree.specs.declared.node.Node.{Node}
-use Rattle.tree.specs.Node.{as_node}
+use Rattle.tree.specs.Node.{as_node, nameless}
 use Rattle.memory_definition.specs.declared.form.Form.{Form}
 use Rattle.memory_definition.specs.declared.form.Form.TheVariants as form
 use Rattle.memory_definition.specs.Numbers.{number_from, literal_read, widened, character_bytes}
@@ -24,19 +24,19 @@ use Rattle.memory_nodes.specs.Reading.{own, seen, length-own}
 
 -- ---- constants
 module _ {r : Node} where
-  pub simple-is : (kind low : ℕ) → r ≡ record { name = 0; kind = kind; sign = 0; low = low; high = 0; width = 0 } → r ≡ as_node (node_of (constant_of kind 0 low 0 0))
+  pub simple-is : (kind low : ℕ) → r ≡ nameless (record { kind = kind; sign = 0; low = low; high = 0; width = 0 }) → r ≡ as_node (node_of (constant_of kind 0 low 0 0))
   unfolding constant_of
   simple-is kind low e = e
 
-  pub real-is : (n : ℕ) {c : Constant} → c ≡ constant_of 3 0 (n % 2 ^ 32) (n / 2 ^ 32) 0 → r ≡ as_node (node_of c) → r ≡ as_node (real_read n)
+  pub real-is : (n : ℕ) {c : Constant} → c ≡ constant_of 3 0 (n % 2 ^ 32) (n / 2 ^ 32) 0 → r ≡ nameless c → r ≡ as_node (real_read n)
   unfolding real_read
   real-is n e h = h ∙ ap (λ c. as_node (node_of c)) e
 
-  pub string-is : (at many width low : ℕ) → low ≡ pick (eqb many 0) 0 at → r ≡ record { name = 0; kind = 8; sign = 0; low = low; high = many; width = width } → r ≡ as_node (string_read at many width)
+  pub string-is : (at many width low : ℕ) → low ≡ pick (eqb many 0) 0 at → r ≡ nameless (record { kind = 8; sign = 0; low = low; high = many; width = width }) → r ≡ as_node (string_read at many width)
   unfolding string_read constant_of
   string-is at many width low e h = h ∙ rw e
 
-  pub number_is : (signed : Bool) (bits kind width m : ℕ) {n : ℕ} {c : Constant} → n ≡ m → c ≡ literal_read signed bits kind width n → r ≡ as_node (node_of c)
+  pub number_is : (signed : Bool) (bits kind width m : ℕ) {n : ℕ} {c : Constant} → n ≡ m → c ≡ literal_read signed bits kind width n → r ≡ nameless c
       → r ≡ as_node (node_of (literal_read signed bits kind width m))
   number_is signed bits kind width m i e h = h ∙ ap (λ c. as_node (node_of c)) (e ∙ ap (literal_read signed bits kind width) i)
 

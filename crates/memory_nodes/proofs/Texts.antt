@@ -1,6 +1,9 @@
 -- A law for each return of put.rt. Assumes nothing.
+use borrow.Enum.Refused.{opened}
+use types.Run.{OneOf, miss}
+use denote.Enum.Declared.{tag_of}
+use Rattle.memory_definition.specs.contracts.form.Form.{the_type}
 use mathlib.Core.Path.{◌≡◌, refl, ap, sym, subst, ◌∙◌}
-use mathlib.Core.Bool.{Bool}
 use mathlib.Core.List.{List, [], ◌∷◌}
 use Prim.Native.Nat.{ℕ, zero, suc, ◌+◌, ◌-◌, ◌*◌, ◌^◌, ◌≤◌, ◌<◌}
 use native.Mathlib.Omega.{arith}
@@ -92,37 +95,21 @@ module _ (fm : Form) (bs : List ℕ) where
   pub none-puts : (old : List ℕ) (at : ℕ) → text_as fm bs ≡ [] → at + length (text_as fm bs) ≤ length old → Puts (text_as fm bs) old at at old
   none-puts old at e h = rw e (puts_none old at (omega (arith, h)))
 
-  pub none-head : fm ≡ form.Head → text_as fm bs ≡ []
-  unfolding text_as
-  none-head e = rw e
+-- every form but a string
+abbrev textless : List ℕ
+textless = 0 ∷ 1 ∷ 2 ∷ 3 ∷ 4 ∷ 5 ∷ 7 ∷ 8 ∷ []
 
-  pub none-null : fm ≡ form.Null → text_as fm bs ≡ []
-  unfolding text_as
-  none-null e = rw e
-
-  pub none-bool : fm ≡ form.Bool → text_as fm bs ≡ []
-  unfolding text_as
-  none-bool e = rw e
-
-  pub none_number : {signed : Bool} {bits kind width : ℕ} → fm ≡ form.Number signed bits kind width → text_as fm bs ≡ []
-  unfolding text_as
-  none_number e = rw e
-
-  pub none-real : fm ≡ form.Real → text_as fm bs ≡ []
-  unfolding text_as
-  none-real e = rw e
-
-  pub none-long : fm ≡ form.LongReal → text_as fm bs ≡ []
-  unfolding text_as
-  none-long e = rw e
-
-  pub none-member : {first count : ℕ} → fm ≡ form.Enumeration first count → text_as fm bs ≡ []
-  unfolding text_as
-  none-member e = rw e
-
-  pub none-nothing : fm ≡ form.Nothing → text_as fm bs ≡ []
-  unfolding text_as
-  none-nothing e = rw e
+pub no-text : (fm : Form) (bs : List ℕ) → OneOf textless (tag_of the_type fm) → text_as fm bs ≡ []
+unfolding text_as
+no-text form.Head bs h = refl
+no-text form.Null bs h = refl
+no-text form.Bool bs h = refl
+no-text (form.Number signed bits kind width) bs h = refl
+no-text form.Real bs h = refl
+no-text form.LongReal bs h = refl
+no-text (form.String most width) bs h = absurd (miss textless 6 tt h)
+no-text (form.Enumeration first count) bs h = refl
+no-text form.Nothing bs h = refl
 
 text-take : (size k x : ℕ) (l : List ℕ) → size * k ≤ x → text_from size k (take x l) ≡ text_from size k l
 unfolding text_from
@@ -176,6 +163,6 @@ read-puts h {n} e {old} {new} {at} {r} p = subst (λ (m : Node). Puts (words_of 
 
 pub ruleset characters = (rules, put_one, characters-first, character-there, character-room, character-fits, characters-more, characters-done)
 
-pub ruleset texts = (rules, none-length, none-puts, none-head, none-null, none-bool, none_number, none-real, none-long, none-member, none-nothing, length-room, string-length, text-room, text-there, string-puts)
+pub ruleset texts = (rules, opened, none-length, none-puts, no-text, length-room, string-length, text-room, text-there, string-puts)
 
 pub ruleset nodes = (rules, node-puts, read-puts)

@@ -2,5 +2,5 @@
 pub mod Readable
 -- the bytes of a node among others
 pub mod Reading
--- nodes in words
+-- all nodes and their bytes
 pub mod All

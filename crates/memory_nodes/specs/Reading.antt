@@ -1,5 +1,5 @@
 -- The bytes of a node among others, and what of the node that is known is looked at. Assumes nothing.
-use Rattle.std.specs.Prelude.{◌≡◌, refl, List, [], ◌∷◌, ℕ, zero, suc, ◌+◌, ◌≤◌, length, take, drop}
+use Rattle.std.specs.Prelude.{◌≡◌, refl, List, [], ◌∷◌, ℕ, zero, suc, ◌+◌, ◌≤◌, take, drop}
 use Rattle.std.proofs.Common.{ap, sym, ◌∙◌, zero-add, suc-add, arith, take-take, drop-drop}
 use Rattle.std.proofs.Math.Seq.{take-nil}
 use Rattle.definition.specs.declared.records.Shape.TheVariants as shape
@@ -8,7 +8,6 @@ use Rattle.memory_definition.specs.declared.form.Form.TheVariants as form
 use Rattle.memory_definition.specs.Cells.{Cell, cell}
 use Rattle.memory_definition.specs.Numbers.{number_from, length_from}
 use Rattle.memory_definition.specs.Forms.{form_of, size_as, node_as}
-use Rattle.memory_laws.specs.InWords.{shape_in, cell_in}
 use Rattle.memory_laws.specs.Placed.{Placed}
 use Rattle.memory_laws.specs.Same.{SizedAs}
 
@@ -32,13 +31,11 @@ read-seen f (form.String most width) at c bs = refl
 read-seen f (form.Enumeration first count) at c bs = refl
 read-seen f form.Nothing at c bs = refl
 
--- the node and the shape at a place are there, and their form is this one
-pub record Stands (f tree shapes : List ℕ) (at : ℕ) (fm : Form) : Type 0 where
-  pub form : fm ≡ form_of f (cell_in tree shapes at)
+-- the form of a node in a place of an accepted file is this one
+pub record Formed (f : List ℕ) (c : Cell) (fm : Form) : Type 0 where
+  pub form : fm ≡ form_of f c
   pub sized : SizedAs fm
-  pub placed : Placed f (shape_in shapes at)
-  pub node : at + 6 ≤ length tree
-  pub shape : at + 6 ≤ length shapes
+  pub placed : Placed f c.shape
 
 -- ---- bytes within a node's bytes
 pub drop-take : (n k : ℕ) (l : List ℕ) → drop n (take (n + k) l) ≡ take k (drop n l)

@@ -19,25 +19,12 @@ use reals::widen::widen;
 use records::source::Source;
 use tree::node::Node;
 
-fn node(c: Constant) -> Node
-    ensures { result ≡ as_node (node_of c) }
-{
-    Node {
-        name: 0,
-        kind: c.kind,
-        sign: c.sign,
-        low: c.low,
-        high: c.high,
-        width: c.width,
-    }
-}
-
 // With nothing but a kind and one word.
 #[tactic(auto, using(crate::proofs::Nodes::leaves))]
 fn simple(kind: u32, low: u32) -> Node
     ensures { result ≡ as_node (node_of (constant_of kind 0 low 0 0)) }
 {
-    node(Constant {
+    Node::from(Constant {
         kind,
         sign: 0,
         low,
@@ -50,7 +37,7 @@ fn simple(kind: u32, low: u32) -> Node
 fn real_read(bits: u64) -> Node
     ensures { result ≡ as_node (real_read bits) }
 {
-    node(literal(3, 0, 0, bits))
+    Node::from(literal(3, 0, 0, bits))
 }
 
 // Two bytes as a word.
@@ -77,7 +64,7 @@ fn begins(at: u32, many: u32) -> u32
 fn string_read(at: u32, many: u32, width: u32) -> Node
     ensures { result ≡ as_node (string_read at many width) }
 {
-    node(Constant {
+    Node::from(Constant {
         kind: 8,
         sign: 0,
         low: begins(at, many),
@@ -92,7 +79,7 @@ fn number_read(signed: bool, bits: u32, kind: u32, width: u32, bytes: &[u8], fro
     ensures { result ≡ as_node (node_of (literal_read signed bits kind width (number_from (take (bits / 8) (drop from bytes.now))))) }
 {
     let n = number_from(bytes, from, (bits / 8) as usize);
-    node(literal_read(signed, bits, kind, width, n))
+    Node::from(literal_read(signed, bits, kind, width, n))
 }
 
 // `head` and `parts` are the kind and the number of parts of the node that stands there; the characters of a string stand behind `at` others.

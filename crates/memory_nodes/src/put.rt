@@ -1,7 +1,7 @@
 // Characters and nodes put into lent words, each behind those before.
 #![tactic(auto, using(crate::proofs::Texts::texts))]
 
-ghost use Rattle.std.specs.Prelude.{◌≡◌, [], ◌∷◌, ◌+◌, ◌*◌, ◌<◌, ◌≤◌, length, drop, get_or};
+ghost use Rattle.std.specs.Prelude.{◌≡◌, [], ◌∷◌, ◌+◌, ◌*◌, ◌<◌, ◌≤◌, length, drop};
 ghost use Rattle.laws.specs.Puts.{Puts};
 ghost use Rattle.tree.specs.Node.{words_of};
 ghost use Rattle.memory_definition.specs.Numbers.{character_bytes, text_from};
@@ -57,17 +57,10 @@ pub fn text_length(form: Form, bytes: &[u8], from: usize) -> u32
     ensures is { result ≡ length (text_as form (own form bytes.now from)) }
     ensures small { result ≤ 65535 }
 {
-    match form {
-        Form::Head => 0,
-        Form::Null => 0,
-        Form::Bool => 0,
-        Form::Number { .. } => 0,
-        Form::Real => 0,
-        Form::LongReal => 0,
-        Form::String { .. } => short_from(bytes, from + 2),
-        Form::Enumeration { .. } => 0,
-        Form::Nothing => 0,
-    }
+    let Form::String { .. } = form else {
+        return 0;
+    };
+    short_from(bytes, from + 2)
 }
 
 // The characters of a form.
@@ -75,20 +68,11 @@ pub fn put_text(characters: &mut [u32], at: usize, form: Form, bytes: &[u8], fro
     requires { (from + size_as form ≤ length bytes.now) × Few form (own form bytes.now from) × (at + length (text_as form (own form bytes.now from)) ≤ length characters.old) }
     ensures { Puts (text_as form (own form bytes.now from)) characters.old at result characters.new }
 {
-    match form {
-        Form::Head => at,
-        Form::Null => at,
-        Form::Bool => at,
-        Form::Number { .. } => at,
-        Form::Real => at,
-        Form::LongReal => at,
-        Form::String { most: _, width } => {
-            let many = short_from(bytes, from + 2);
-            put_characters(characters, at, bytes, from + 4, width, many)
-        }
-        Form::Enumeration { .. } => at,
-        Form::Nothing => at,
-    }
+    let Form::String { most: _, width } = form else {
+        return at;
+    };
+    let many = short_from(bytes, from + 2);
+    put_characters(characters, at, bytes, from + 4, width, many)
 }
 
 #[tactic(auto, using(crate::proofs::Texts::nodes))]
@@ -100,21 +84,29 @@ fn put_node(out: &mut [u32], at: usize, node: Node) -> usize
     at + NODE_WORDS
 }
 
-// The node that is read in place of the one at `at`; its characters stand behind so many others.
+// What is read in place of a node, put at a place; its characters stand behind so many others.
 #[tactic(auto, using(crate::proofs::Texts::nodes))]
 pub fn put_read(
     file: &Source<'_>,
-    tree: &[u32],
-    at: usize,
+    node: Node,
     form: Form,
     many: u32,
     bytes: &[u8],
     from: usize,
     out: &mut [u32],
+    at: usize,
 ) -> usize
-    requires { SizedAs form × (from + size_as form ≤ length bytes.now) × (at + 6 ≤ length tree.now) × (at + 6 ≤ length out.old) }
-    ensures { Puts (node_words_of (node_as file.now form many (seen (get_or tree.now (at + 1) 0) (get_or tree.now (at + 3) 0)) (own form bytes.now from))) out.old at result out.new }
+    requires { SizedAs form × (from + size_as form ≤ length bytes.now) × (at + 6 ≤ length out.old) }
+    ensures { Puts (node_words_of (node_as file.now form many (seen node.value.kind node.value.low) (own form bytes.now from))) out.old at result out.new }
 {
-    let node = node_read(file, form, many, tree[at + 1], tree[at + 3], bytes, from);
-    put_node(out, at, node)
+    let read = node_read(
+        file,
+        form,
+        many,
+        node.value.kind,
+        node.value.low,
+        bytes,
+        from,
+    );
+    put_node(out, at, read)
 }

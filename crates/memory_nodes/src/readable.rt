@@ -8,17 +8,17 @@ ghost use Rattle.memory_definition.specs.Numbers.{character_bytes};
 ghost use Rattle.memory_definition.specs.Forms as Forms;
 ghost use Rattle.memory_definition.specs.Forms.{size_as};
 ghost use Rattle.memory_laws.specs.Bytes.{Bytes};
-ghost use Rattle.memory_laws.specs.InWords.{cell_in};
+ghost use Rattle.memory_forms.specs.Cell.{cell_of};
 ghost use Rattle.memory_nodes.specs.Readable as Readable;
-ghost use Rattle.memory_nodes.specs.Reading.{own, Stands};
+ghost use Rattle.memory_nodes.specs.Reading.{own, Formed};
 
 use crate::bytes::{number_from, zeros};
 use crate::node::{node_read, short_from};
 use memory_definition::form::Form;
+use memory_forms::cells::Cell;
 use memory_forms::form::{size_of, text_size};
 use memory_forms::held::held;
 use memory_forms::members::member_place;
-use memory_forms::words::shape_in;
 use records::source::Source;
 
 // Where a member first stands in its run, 0 where it does not.
@@ -26,11 +26,7 @@ use records::source::Source;
 fn first_place(file: &Source<'_>, name: u32, first: u32, many: u32) -> u32
     ensures { result ≡ first_named file.now members name first many - suc first }
 {
-    let place = member_place(file, name, first, many);
-    if place < many {
-        return place;
-    }
-    0
+    member_place(file, name, first, many).unwrap_or(0)
 }
 
 // A string's greatest length, its length, and zeros behind its characters.
@@ -60,57 +56,38 @@ fn fills(file: &Source<'_>, form: Form, low: u32, bytes: &[u8], from: usize) -> 
     ensures { result ≡ Readable.fills file.now form low (own form bytes.now from) }
 {
     match form {
-        Form::Head => true,
         Form::Null => number_from(bytes, from, 4) == 0,
-        Form::Bool => true,
-        Form::Number { .. } => true,
-        Form::Real => true,
-        Form::LongReal => true,
         Form::String { most, width } => string_fills(bytes, from, most, width),
         Form::Enumeration { first, count } => {
             short_from(bytes, from) == first_place(file, low, first, count) % 65536
         }
         Form::Nothing => false,
+        _ => true,
     }
 }
 
-// The shape of the node at `at` holds what is read from the bytes, and that is written as them.
+// The node's shape holds what is read from the bytes, and that is written as them.
 #[tactic(auto, using(crate::proofs::Filling::readables))]
-fn is_written(
-    file: &Source<'_>,
-    tree: &[u32],
-    shapes: &[u32],
-    at: usize,
-    form: Form,
-    bytes: &[u8],
-    from: usize,
-) -> bool
-    requires { Stands file.now tree.now shapes.now at form × Bytes bytes.now × (from + size_as form ≤ length bytes.now) }
-    ensures { result ≡ Forms.readable file.now (cell_in tree.now shapes.now at) (own form bytes.now from) }
+fn is_written(file: &Source<'_>, cell: Cell, form: Form, bytes: &[u8], from: usize) -> bool
+    requires { Formed file.now (cell_of cell.shape cell.node) form × Bytes bytes.now × (from + size_as form ≤ length bytes.now) }
+    ensures { result ≡ Forms.readable file.now (cell_of cell.shape cell.node) (own form bytes.now from) }
 {
-    let read = node_read(file, form, 0, tree[at + 1], tree[at + 3], bytes, from);
-    if !held(file, shape_in(shapes, at), read) {
+    let value = cell.node.value;
+    let read = node_read(file, form, 0, value.kind, value.low, bytes, from);
+    if !held(file, cell.shape, read) {
         return false;
     }
-    fills(file, form, read.low, bytes, from)
+    fills(file, form, read.value.low, bytes, from)
 }
 
 // The same of the bytes from a place on, if there are as many as the form has.
 #[tactic(auto, using(crate::proofs::Filling::readables))]
-pub fn readable(
-    file: &Source<'_>,
-    tree: &[u32],
-    shapes: &[u32],
-    at: usize,
-    form: Form,
-    bytes: &[u8],
-    from: usize,
-) -> bool
-    requires { Stands file.now tree.now shapes.now at form × Bytes bytes.now × (from ≤ length bytes.now) }
-    ensures { result ≡ Forms.readable file.now (cell_in tree.now shapes.now at) (own form bytes.now from) }
+pub fn readable(file: &Source<'_>, cell: Cell, form: Form, bytes: &[u8], from: usize) -> bool
+    requires { Formed file.now (cell_of cell.shape cell.node) form × Bytes bytes.now × (from ≤ length bytes.now) }
+    ensures { result ≡ Forms.readable file.now (cell_of cell.shape cell.node) (own form bytes.now from) }
 {
     if bytes.len() - from < size_of(form) {
         return false;
     }
-    is_written(file, tree, shapes, at, form, bytes, from)
+    is_written(file, cell, form, bytes, from)
 }

@@ -9,7 +9,9 @@ use acceptance::work::{line_words, room_words};
 use definition::answers::Refusal;
 use std::io;
 use variable::Variable;
-use vector_io::answers::{holds, judged, replay};
+use vector_io::answers::{
+    LENT, MOST_LINES, MOST_ROOM, holds, is_lent, judged, print_replayed, replay,
+};
 use vector_io::{next_word, read_counted};
 
 // More words than any stored file has, and than any of its nodes or characters; more bytes than any variable has.
@@ -18,13 +20,7 @@ const MOST_WORDS: usize = 512;
 const MOST_BYTES: usize = 256;
 // More files than are stored.
 const MOST_FILES: u32 = 1000;
-// Lines of 20 types, and room of 30 levels: more than any stored file wants.
-const MOST_LINES: usize = 245820;
-
-const MOST_ROOM: usize = 737280;
-// What words and bytes are before a call.
-const LENT: u32 = 0xA5A5_A5A5;
-
+// What bytes are before a call.
 const LENT_BYTE: u8 = 0xA5;
 // What stands behind the variables of a file.
 const SENTINEL: u32 = 0x5E17_1E57;
@@ -104,10 +100,6 @@ fn replay_write(rt: &impl Input, variable: &mut Variable<'_>) -> io::Result<bool
     Ok(whole & writes_short(rt, variable, stored, count)?)
 }
 
-fn is_lent(words: &[u32]) -> bool {
-    words.iter().all(|word| *word == LENT)
-}
-
 // So many words of nodes and of characters are too few, and none of them is written.
 fn reads_few(variable: &mut Variable<'_>, bytes: &[u8], node_words: usize, text: usize) -> bool {
     let mut nodes = [LENT; MOST_WORDS];
@@ -119,7 +111,7 @@ fn reads_few(variable: &mut Variable<'_>, bytes: &[u8], node_words: usize, text:
         return false;
     };
     let answer = variable.read(bytes, nodes, characters);
-    is_read(answer, SHORT) & is_lent(nodes) & is_lent(characters)
+    is_read(answer, SHORT) & is_lent(nodes, LENT) & is_lent(characters, LENT)
 }
 
 // One word too few of either, where any is written.
@@ -226,8 +218,7 @@ fn replay_all(
     lines: &mut [u32],
     room: &mut [u32],
 ) -> io::Result<()> {
-    let right = replay(MOST_FILES, |k| replay_file(rt, k, words, lines, room))?;
-    rt.println(right)
+    print_replayed(rt, MOST_FILES, |k| replay_file(rt, k, words, lines, room))
 }
 
 fn main(rt: HostRuntime) -> io::Result<()> {

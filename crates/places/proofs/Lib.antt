@@ -1,3 +1,5 @@
+pub mod Chains
 pub mod Kept
 pub mod Others
 pub mod Steps
+pub mod Views

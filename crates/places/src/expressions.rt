@@ -28,7 +28,7 @@ fn later(x: u32) -> Option<Constant>
 }
 
 // The enumerated value of an entry.
-fn enumerated_entry(file: &File<'_>, shape: Shape, e: u32) -> Option<Constant>
+pub fn enumerated_entry(file: &File<'_>, shape: Shape, e: u32) -> Option<Constant>
     requires { ShapeIn file.now.source shape }
     ensures { as_tree (result_of result) ≡ enumerated_value file.now.source shape (Layout.word file.now.source entries e 2) (Layout.word file.now.source entries e 3) }
 {

@@ -4,44 +4,32 @@
 ghost use Rattle.std.specs.Prelude.{◌≡◌, ◌<◌};
 ghost use Rattle.definition.specs.Base.{on_link};
 ghost use Rattle.definition.specs.Layout as Layout;
-ghost use Rattle.definition.specs.Layout.{shapes};
-ghost use Rattle.definition.specs.Places.{field_declaration, structure_field_place, field_place, string_place, variable_place};
+ghost use Rattle.definition.specs.Layout.{shapes, variables};
+ghost use Rattle.definition.specs.Places.{field_declaration, structure_field_place, field_place, variable_place};
 ghost use Rattle.laws.specs.Links.{Link};
 ghost use Rattle.laws.specs.Used.{IsType};
 ghost use Rattle.shapes.specs.Classes.{Classes};
 ghost use Rattle.definition.specs.Ask.{result_of};
-ghost use Rattle.places.specs.Found.{linked_place, structure_field, block_field};
+ghost use Rattle.places.specs.Found.{linked_place, structure_field, block_field, string_of};
 ghost use Rattle.places.specs.Inside.{PlaceIn, FieldsIn};
+ghost use Rattle.places.specs.Links.{link_of};
 
-use crate::block::block_field_type;
+use crate::block::{Run, block_field_type};
 use crate::declared::{declared_element, declared_type, field_declaration};
-use crate::named::first_named;
+use crate::named::{first_named, led_to, linked};
 use crate::place::{bare, place_of, typed_place};
-use definition::layout::{INITIALIZERS, INLINE, SHAPE_FIELDS, VARIABLES};
-use definition::records::{Place, Shape};
+use definition::layout::{INLINE, SHAPE_FIELDS, VARIABLES};
+use definition::records::{Initializer, Place, Shape};
 use records::file::File;
 use records::source::Source;
 
-// The place of the type that a link leads to.
-fn linked_place(file: &Source<'_>, id: u32) -> Option<Place>
-    ensures { result_of result ≡ linked_place file.now id }
-{
-    if id == 0 {
-        return None;
-    }
-    Some(place_of(file, id - 1))
-}
-
-// The initializer that declares a field of a place, as a link.
-fn place_declaration(file: &File<'_>, place: Place, name: u32) -> u32
+// The initializer that declares a field of a place.
+fn place_declaration(file: &File<'_>, place: Place, name: u32) -> Option<u32>
     requires { PlaceIn file.now.source place }
-    ensures { result ≡ on_link place.id 0 (field_declaration file.now.source name) }
+    ensures { link_of result ≡ on_link place.id 0 (field_declaration file.now.source name) }
 {
-    let id = place.id;
-    if id == 0 {
-        return 0;
-    }
-    field_declaration(file, name, id - 1)
+    let t = led_to(place.id)?;
+    field_declaration(file, name, t)
 }
 
 // A field, of the shape s, of a structure.
@@ -49,13 +37,12 @@ fn structure_field_place(file: &File<'_>, classes: &[u32], place: Place, name: u
     requires { Classes file.now.source classes.now × PlaceIn file.now.source place × (s < Layout.count file.now.source shapes) }
     ensures { result ≡ structure_field_place file.now.source place name s }
 {
-    let i = place_declaration(file, place, name);
-    if i == 0 {
+    let Some(i) = place_declaration(file, place, name) else {
         return bare(file.source.shape(s));
-    }
-    let id = declared_type(&file.source, i - 1);
-    let element = declared_element(&file.source, i - 1);
-    typed_place(file, classes, s, id, element)
+    };
+    let named = declared_type(&file.source, i);
+    let element = declared_element(&file.source, i);
+    typed_place(file, classes, s, named, element)
 }
 
 // A field of a structure whose fields are a run.
@@ -63,18 +50,14 @@ fn structure_field(
     file: &File<'_>,
     classes: &[u32],
     place: Place,
-    first: u32,
-    many: u32,
+    run: Run,
     name: u32,
 ) -> Option<Place>
-    requires { Classes file.now.source classes.now × PlaceIn file.now.source place × FieldsIn file.now.source first many }
-    ensures { result_of result ≡ structure_field file.now.source place name first many }
+    requires { Classes file.now.source classes.now × PlaceIn file.now.source place × FieldsIn file.now.source run.first run.count }
+    ensures { result_of result ≡ structure_field file.now.source place name run.first run.count }
 {
-    let field = first_named(&file.source, SHAPE_FIELDS, name, first, many);
-    if field == 0 {
-        return None;
-    }
-    let s = file.source.word(SHAPE_FIELDS, field - 1, 1);
+    let field = first_named(&file.source, SHAPE_FIELDS, name, run)?;
+    let s = file.source.word(SHAPE_FIELDS, field, 1);
     Some(structure_field_place(file, classes, place, name, s))
 }
 
@@ -83,11 +66,9 @@ fn block_field(file: &File<'_>, id: u32, name: u32) -> Option<Place>
     requires { Link (IsType file.now.source) id }
     ensures { result_of result ≡ block_field file.now.source id name }
 {
-    if id == 0 {
-        return None;
-    }
-    let field = block_field_type(file, id - 1, name);
-    linked_place(&file.source, field)
+    let t = led_to(id)?;
+    let field = block_field_type(file, t, name)?;
+    Some(place_of(&file.source, field))
 }
 
 // A field of a structure or a function block, by its name.
@@ -98,7 +79,7 @@ pub fn field_place(file: &File<'_>, classes: &[u32], place: Place, name: u32) ->
     let shape = place.shape;
     match shape {
         Shape::Structure { first, count } => {
-            structure_field(file, classes, place, first, count, name)
+            structure_field(file, classes, place, Run { first, count }, name)
         }
         Shape::FunctionBlock { name: _ } => block_field(file, place.id, name),
         _ => None,
@@ -106,25 +87,29 @@ pub fn field_place(file: &File<'_>, classes: &[u32], place: Place, name: u32) ->
 }
 
 // A string variable has the length and the width that its initializer states, none where the length is no integer.
-fn string_place(file: &Source<'_>, i: u32) -> Option<Place>
-    ensures { result_of result ≡ string_place file.now i }
+fn string_place(length: u32, width: u32) -> Option<Place>
+    ensures { result_of result ≡ string_of length width }
 {
-    let length = file.word(INITIALIZERS, i, 6);
     if length == INLINE {
         return None;
     }
-    let width = file.word(INITIALIZERS, i, 7);
     Some(bare(Shape::String { length, width }))
+}
+
+// The place of a variable of a type.
+fn type_place(file: &Source<'_>, v: u32) -> Option<Place>
+    ensures { result_of result ≡ linked_place file.now (Layout.word file.now variables v 2) }
+{
+    let t = linked(file, VARIABLES, v, 2)?;
+    Some(place_of(file, t))
 }
 
 // The place of the variable v with the initializer i: a string's comes from the initializer, any other's from its type.
 pub fn variable_place(file: &Source<'_>, v: u32, i: u32) -> Option<Place>
     ensures { result_of result ≡ variable_place file.now v i }
 {
-    let kind = file.word(INITIALIZERS, i, 0);
-    if kind == 4 {
-        return string_place(file, i);
+    match file.initializer(i) {
+        Initializer::String { length, width, .. } => string_place(length, width),
+        _ => type_place(file, v),
     }
-    let id = file.word(VARIABLES, v, 2);
-    linked_place(file, id)
 }

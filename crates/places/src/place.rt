@@ -2,19 +2,20 @@
 #![tactic(auto, using(crate::proofs::place::Laws::laws))]
 
 ghost use Rattle.std.specs.Prelude.{◌≡◌, ◌-◌, ◌^◌, ◌<◌};
-ghost use Rattle.definition.specs.Base.{on_link, pick};
+ghost use Rattle.definition.specs.Base.{on_link};
 ghost use Rattle.definition.specs.Layout as Layout;
 ghost use Rattle.definition.specs.Layout.{shapes};
-ghost use Rattle.definition.specs.Records.{type_shape, element_type};
-ghost use Rattle.definition.specs.Accept.{same_shape};
+ghost use Rattle.definition.specs.Records.{element_type};
 ghost use Rattle.definition.specs.Places as Places;
 ghost use Rattle.definition.specs.Places.{place_of, typed_place, element_place, leaf_place};
 ghost use Rattle.laws.specs.Links.{Link};
 ghost use Rattle.laws.specs.Used.{IsType};
 ghost use Rattle.shapes.specs.Classes.{Classes};
+ghost use Rattle.places.specs.Found.{own_link};
 ghost use Rattle.places.specs.Inside.{PlaceIn};
+ghost use Rattle.places.specs.Links.{link_of};
 
-use crate::named::{linked_word, or_else};
+use crate::named::{led_to, link_to, linked};
 use definition::layout::{SHAPES, TYPES};
 use definition::records::{Place, Shape};
 use records::file::File;
@@ -46,37 +47,41 @@ pub fn place_of(file: &Source<'_>, t: u32) -> Place
 }
 
 // The type is kept only where it has that very shape.
-fn own_type(file: &File<'_>, classes: &[u32], s: u32, id: u32) -> u32
-    requires { Classes file.now.source classes.now × (s < Layout.count file.now.source shapes) × Link (IsType file.now.source) id }
-    ensures { result ≡ on_link id 0 (λ t. pick (same_shape file.now.source (type_shape file.now.source t) s) id 0) }
+fn own_type(file: &File<'_>, classes: &[u32], s: u32, named: Option<u32>) -> Option<u32>
+    requires { Classes file.now.source classes.now × (s < Layout.count file.now.source shapes) × Link (IsType file.now.source) (link_of named) }
+    ensures is { link_of result ≡ own_link file.now.source s (link_of named) }
+    ensures near { link_of result < 2 ^ 32 }
 {
-    if id == 0 {
-        return 0;
-    }
-    let own = file.source.word(TYPES, id - 1, 0);
-    if same_shape(file, classes, own, s) {
-        return id;
-    }
-    0
+    let t = named?;
+    let own = file.source.word(TYPES, t, 0);
+    same_shape(file, classes, own, s).then_some(t)
 }
 
-// The element type of the type that a link leads to.
-fn element_of(file: &Source<'_>, id: u32) -> u32
-    ensures { result ≡ on_link id 0 (element_type file.now) }
+// The element type of a type, if there is one.
+fn element_of(file: &Source<'_>, of: Option<u32>) -> Option<u32>
+    ensures is { link_of result ≡ on_link (link_of of) 0 (element_type file.now) }
+    ensures near { link_of result < 2 ^ 32 }
 {
-    linked_word(file, TYPES, id, 2)
+    let t = of?;
+    linked(file, TYPES, t, 2)
 }
 
-pub fn typed_place(file: &File<'_>, classes: &[u32], s: u32, id: u32, element: u32) -> Place
-    requires { Classes file.now.source classes.now × (s < Layout.count file.now.source shapes) × Link (IsType file.now.source) id }
-    ensures { result ≡ typed_place file.now.source s id element }
+pub fn typed_place(
+    file: &File<'_>,
+    classes: &[u32],
+    s: u32,
+    named: Option<u32>,
+    element: Option<u32>,
+) -> Place
+    requires { Classes file.now.source classes.now × (s < Layout.count file.now.source shapes) × Link (IsType file.now.source) (link_of named) × (link_of element < 2 ^ 32) }
+    ensures { result ≡ typed_place file.now.source s (link_of named) (link_of element) }
 {
-    let own = own_type(file, classes, s, id);
+    let own = own_type(file, classes, s, named);
     let other = element_of(&file.source, own);
     Place {
         shape: file.source.shape(s),
-        id: own,
-        element: or_else(element, other),
+        id: link_to(own),
+        element: link_to(element.or(other)),
     }
 }
 
@@ -85,9 +90,9 @@ pub fn element_place(file: &File<'_>, classes: &[u32], place: Place, s: u32) -> 
     requires { Classes file.now.source classes.now × PlaceIn file.now.source place × (s < Layout.count file.now.source shapes) }
     ensures { result ≡ element_place file.now.source place s }
 {
-    let other = element_of(&file.source, place.id);
-    let id = or_else(place.element, other);
-    typed_place(file, classes, s, id, 0)
+    let other = element_of(&file.source, led_to(place.id));
+    let named = led_to(place.element).or(other);
+    typed_place(file, classes, s, named, None)
 }
 
 // What an array of arrays is filled with: an element of its innermost arrays.

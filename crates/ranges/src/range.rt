@@ -1,5 +1,5 @@
-// Whether an integer type or a subrange holds a number (`fits` of value_range.rs), on a sign and a size instead of an i128.
-#![tactic(auto, using(crate::proofs::range::Laws::laws))]
+// Whether an integer type or a subrange holds a number (`fits` of value_range.rs).
+#![tactic(auto)]
 
 ghost use Rattle.std.specs.Prelude.{◌≡◌, true, eqb};
 ghost use Rattle.std.specs.Int.Signed.{le_z};
@@ -17,7 +17,7 @@ pub fn negative(c: Constant) -> bool
     c.sign == 1
 }
 
-#[tactic(auto, using(crate::proofs::range::Laws::laws), unfolding(definition::specs::Base::joined, definition::specs::Scalar::size_of))]
+#[tactic(auto, unfolding(definition::specs::Base::joined, definition::specs::Scalar::size_of))]
 pub fn size(c: Constant) -> u64
     ensures { result ≡ size_of c }
 {
@@ -28,14 +28,11 @@ pub fn size(c: Constant) -> u64
 pub fn depth(bound: i64) -> u64
     ensures { result ≡ depth_of bound }
 {
-    if bound < 0 {
-        // counted from -1, since the least i64 has no opposite
-        return (-1 - bound) as u64 + 1;
-    }
-    0
+    bound.min(0).unsigned_abs()
 }
 
 // Whether an integer of some bits holds a constant's number.
+#[tactic(auto, using(crate::proofs::range::Laws::laws))]
 pub fn fits(c: Constant, bits: u32, signed: bool) -> bool
     requires { is_bits bits ≡ true }
     ensures { result ≡ in_range signed bits (value_of c) }
@@ -51,31 +48,26 @@ pub fn fits(c: Constant, bits: u32, signed: bool) -> bool
     size(c) <= greatest
 }
 
-// Whether a constant's number is at most another's. Either may be a zero with a sign.
+// A constant's number. A zero may have a sign.
+#[tactic(auto, unfolding(definition::specs::Iec::number, definition::specs::Scalar::value_of))]
+fn number(c: Constant) -> i128
+    ensures { result ≡ value_of c }
+{
+    let magnitude = size(c) as i128;
+    if negative(c) { -magnitude } else { magnitude }
+}
+
+// Whether a constant's number is at most another's.
 fn at_most(a: Constant, b: Constant) -> bool
     ensures { result ≡ le_z (value_of a) (value_of b) }
 {
-    if negative(a) {
-        if negative(b) {
-            return size(b) <= size(a);
-        }
-        return true;
-    }
-    if negative(b) {
-        if size(a) == 0 {
-            return size(b) == 0;
-        }
-        return false;
-    }
-    size(a) <= size(b)
+    number(a) <= number(b)
 }
 
 // Whether a subrange holds a constant's number: its own bounds decide, and least above greatest holds nothing.
+#[tactic(auto, unfolding(definition::specs::Iec::between))]
 pub fn within(c: Constant, least: Constant, greatest: Constant) -> bool
     ensures { result ≡ between (value_of least) (value_of greatest) (value_of c) }
 {
-    if at_most(least, c) {
-        return at_most(c, greatest);
-    }
-    false
+    at_most(least, c) & at_most(c, greatest)
 }

@@ -9,7 +9,9 @@ use Rattle.std.specs.declared.ops.Range.{Range}
 use Rattle.std.proofs.iter.Yields.{nat_range_steps}
 use Rattle.std.proofs.lemmas.Fn.{fold_over}
 use Rattle.std.proofs.lemmas.Iterator.{YieldsList-from_range}
-use Prim.Native.Nat.{ℕ, zero, suc, max, ◌+◌, ◌-◌}
+use Prim.Native.Nat.{ℕ, zero, suc, max, ◌+◌, ◌-◌, ◌≤◌}
+use Rattle.std.specs.Prelude.{Option, Some, None}
+use Rattle.std.specs.Option.{SomeIff}
 use native.Mathlib.Omega.{arith}
 use native.Mathlib.Numerals.{add-one}
 use lib.ListN.{get_or}
@@ -31,15 +33,17 @@ in_words words t h = h
 
 -- ---- links
 module _ (rank : ℕ → ℕ) (high : ℕ) where
-  pub link-none : (link : ℕ) → link ≡ 0 → high ≡ raise rank high (linked link)
-  unfolding linked raise
-  link-none link e = rw e
+  module _ (link : ℕ) {o : Option ℕ} (taken : SomeIff o (1 ≤ link) (link - 1)) where
+    pub link-none : o ≡ None → high ≡ raise rank high (linked link)
+    unfolding linked raise
+    link-none e = let k : (1 ≤ link → ⊥) = (rw e at taken) in let q : link ≡ 0 = omega (arith, k) in rw q
 
-  pub link-over : (link : ℕ) → (link ≡ 0 → ⊥) → {o s : ℕ} → o ≡ rank (link - 1) + 1 → s ≡ max high o → s ≡ raise rank high (linked link)
-  unfolding linked raise
-  link-over link n {o} {s} p q =
-      let e : link ≡ suc (link - 1) = omega (arith, n) in
-      rw e (q ∙ ap (max high) (p ∙ add-one (rank (link - 1))))
+    pub link-over : {t : ℕ} → o ≡ Some t → {r s : ℕ} → r ≡ rank t + 1 → s ≡ max high r → s ≡ raise rank high (linked link)
+    unfolding linked raise
+    link-over {t} e p q =
+        let k : (1 ≤ link) × (t ≡ link - 1) = (rw e at taken) in
+        let z : link ≡ suc t = omega (arith, k.0, k.1) in
+        rw z (q ∙ ap (max high) (p ∙ add-one (rank t)))
 
   pub name-none : (name : ℕ) → name ≡ inline → high ≡ raise rank high (named_use name)
   unfolding named_use raise
@@ -55,13 +59,17 @@ module _ (rank : ℕ → ℕ) (high : ℕ) where
     unfolding initializer_uses named_type
     initializer-over i p q h k = rw (raise-append, ← p, ← q, ← h) k
 
-    pub start_none : (start : ℕ) → start ≡ 0 → high ≡ raise rank high (start_uses f start)
-    unfolding start_uses raise
-    start_none start e = rw e
+    module _ (start : ℕ) {o : Option ℕ} (taken : SomeIff o (1 ≤ start) (start - 1)) where
+      pub start_none : o ≡ None → high ≡ raise rank high (start_uses f start)
+      unfolding start_uses raise
+      start_none e = let k : (1 ≤ start → ⊥) = (rw e at taken) in let q : start ≡ 0 = omega (arith, k) in rw q
 
-    pub start-over : (start : ℕ) → (start ≡ 0 → ⊥) → {s : ℕ} → s ≡ raise rank high (initializer_uses f (start - 1)) → s ≡ raise rank high (start_uses f start)
-    unfolding start_uses
-    start-over start n h = let e : start ≡ suc (start - 1) = omega (arith, n) in rw e h
+      pub start-over : {i : ℕ} → o ≡ Some i → {s : ℕ} → s ≡ raise rank high (initializer_uses f i) → s ≡ raise rank high (start_uses f start)
+      unfolding start_uses
+      start-over {i} e h =
+          let k : (1 ≤ start) × (i ≡ start - 1) = (rw e at taken) in
+          let z : start ≡ suc i = omega (arith, k.0, k.1) in
+          rw z h
 
     module _ (t name : ℕ) {d : ℕ} (q : d ≡ word f types t 3) where
       pub reference-none : name ≡ d → high ≡ raise rank high (reference_uses f t name)

@@ -1,5 +1,6 @@
 -- What the functions of the search for the lowest ranks hand to each other. Assumes nothing.
 use mathlib.Core.Path.{◌≡◌, refl, ap, ◌∙◌}
+use mathlib.Core.Bool.{Bool, true, false}
 use mathlib.Core.Logic.{inl}
 use mathlib.Core.List.{List}
 use Prim.Native.Nat.{ℕ, ◌+◌, ◌-◌, ◌^◌, ◌≤◌, ◌<◌}
@@ -9,6 +10,7 @@ use lib.Seq.{get_or-set_same, get_or-set_other}
 use borrow.Author.Count.{below_more}
 use borrow.Author.Rules.{rules}
 use Rattle.std.specs.Prelude.{Result, Ok, Err}
+use Rattle.std.specs.Result.{is_err}
 use Rattle.definition.specs.Answers.{cleared}
 use Rattle.definition.specs.Uses.{uses, raise, rank_at, ranked, circle, ranks_of}
 use Rattle.laws.specs.Accepted.{Accepted, few-types}
@@ -171,4 +173,14 @@ module _ {f : List ℕ} (a : Accepted f) where
     answer-circle e l k q =
         rw (← is-ranking (many f) (uses f) inside circle (ends-round x e)) (record { says = refl; wrote = q ∙ ap (λ (k : ℕ). replicate k 0) (l ∙ k) })
 
-pub ruleset answering = (rules, answer-few, answer-start, answer-ranks, answer-circle)
+  module _ {b : Bool} {w : List ℕ} where
+    pub answer-kept : (r : Ranked) → Ends f (Upto f (many f) w) r → b ≡ is_err r → b ≡ false → {n : ℕ} → Found (ranks_of f) n r w
+    answer-kept (Ok u) x e h = answer-ranks x refl
+    answer-kept (Err c) x e h = let z : ◌≡◌ {A = ℕ} 0 1 = cc in absurd (omega arith)
+
+    pub answer-left : (r : Ranked) → Ends f (Upto f (many f) w) r → b ≡ is_err r → b ≡ true → {n : ℕ} → length w ≡ n → {new : List ℕ} → new ≡ cleared w
+        → Found (ranks_of f) n r new
+    answer-left (Ok u) x e h l q = let z : ◌≡◌ {A = ℕ} 0 1 = cc in absurd (omega arith)
+    answer-left (Err c) x e h l q = answer-circle x refl l refl q
+
+pub ruleset answering = (rules, answer-few, answer-start, answer-kept, answer-left)

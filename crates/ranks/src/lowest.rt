@@ -106,11 +106,9 @@ pub fn lowest_ranks(file: &File<'_>, ranks: &mut [u32]) -> Result<(), Circle>
     ensures { Found (ranks_of file.now.source) (length ranks.old) result ranks.new }
 {
     forget(ranks);
-    match rank_all(&file.source, ranks) {
-        Ok(()) => Ok(()),
-        Err(circle) => {
-            clear(ranks);
-            Err(circle)
-        }
+    let ranked = rank_all(&file.source, ranks);
+    if ranked.is_err() {
+        clear(ranks);
     }
+    ranked
 }

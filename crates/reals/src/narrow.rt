@@ -7,8 +7,9 @@ ghost use Rattle.memory_definition.specs.Numbers.{narrowed};
 ghost use Rattle.reals.specs.Fields.{Fields, single};
 
 use crate::is_nan;
+use rounding::nearest;
 
-// The digits above the `below` + 1 lowest, rounded by the highest digit dropped and by whether any digit below that is set.
+// The digits above the `below` + 1 lowest, rounded to the nearest: none where all are dropped.
 #[tactic(auto, using(crate::proofs::narrow::Nearest::laws))]
 fn rounded(size: u64, below: u64) -> u64
     requires { size < 2 ^ 53 }
@@ -17,16 +18,7 @@ fn rounded(size: u64, below: u64) -> u64
     if below > 52 {
         return 0;
     }
-    let kept = size >> (below + 1);
-    let half = (size >> below) & 1;
-    let sticky = size & ((1 << below) - 1);
-    if half == 0 {
-        return kept;
-    }
-    if sticky == 0 {
-        return kept + (kept & 1);
-    }
-    kept + 1
+    nearest(size, below)
 }
 
 // Below the field 897 the values are the multiples of the smallest one. From there on the leading digit adds 1 to the field, or 2 where it was rounded up to the next

@@ -1,8 +1,7 @@
 // An accepted file.
-#![tactic(auto, using(crate::proofs::Declaring::declaring))]
+#![tactic(auto)]
 
-ghost use Rattle.std.specs.Prelude.{◌≡◌, ◌&&◌, ◌≤◌, leb};
-ghost use Rattle.definition.specs.Base.{pick};
+ghost use Rattle.std.specs.Prelude.{◌≡◌, ◌&&◌, leb};
 ghost use Rattle.definition.specs.Layout as Layout;
 ghost use Rattle.definition.specs.Layout.{types};
 ghost use Rattle.definition.specs.Records.{declaration_kind};
@@ -21,30 +20,22 @@ pub struct File<'a> {
     ghost counted: { declared ≡ declared_types source (Layout.count source types) },
 }
 
-// 1 where a `TYPE` declaration declares t, otherwise 0.
-fn declared_at(source: &Source<'_>, t: u32) -> usize
-    ensures { result ≡ pick (leb 1 (declaration_kind source.now t) && leb (declaration_kind source.now t) 8) 1 0 }
+// Whether a `TYPE` declaration declares t.
+#[tactic(auto, unfolding(definition::specs::Records::declaration_kind))]
+fn is_declared(source: &Source<'_>, t: u32) -> bool
+    ensures { result ≡ leb 1 (declaration_kind source.now t) && leb (declaration_kind source.now t) 8 }
 {
     let kind = source.word(TYPES, t, 4);
-    if kind < 1 {
-        return 0;
-    }
-    if kind > 8 {
-        return 0;
-    }
-    1
+    (1 <= kind) & (kind <= 8)
 }
 
 // How many types a `TYPE` declaration declares.
 pub fn declared_types(source: &Source<'_>) -> usize
     ensures { result ≡ declared_types source.now (Layout.count source.now types) }
 {
-    let many = source.count(TYPES);
-    let mut found: usize = 0;
-    for t in 0..many {
-        found += declared_at(source, t);
-    }
-    found
+    (0..source.count(TYPES))
+        .filter(|t| is_declared(source, *t))
+        .count()
 }
 
 impl<'a> File<'a> {

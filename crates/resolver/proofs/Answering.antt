@@ -7,8 +7,8 @@ use native.Mathlib.Omega.{arith}
 use lib.Dec.{eqb, leb, ltb}
 use lib.ListN.{length, take, drop, replicate}
 use borrow.Author.Rules.{rules}
-use borrow.Author.Tests.{eqb-true, eqb-false, ne_eqb, leb-true, ltb-true, le-leb, lt-leb, lt-ltb, le-ltb}
-use Rattle.definition.specs.Base.{choose}
+use borrow.Author.Tests.{eqb-true, eqb-false, leb-true, ltb-true, le-leb}
+use Rattle.definition.specs.Base.{pick, choose}
 use Rattle.definition.specs.Layout.{count}
 use Rattle.definition.specs.Accept.{need, verdict}
 use Rattle.definition.specs.Tree.{Tree, nodes, flatten}
@@ -18,7 +18,9 @@ use Rattle.laws.specs.Cases.{both}
 use Rattle.laws.specs.Accepted.{accepted}
 use Rattle.laws.specs.Whole.{flatten-length}
 use Rattle.shapes.specs.Classes.{classes_of}
-use Rattle.acceptance.proofs.Wanting.{at-least-one, file-passes, file-refuses}
+use Rattle.acceptance.specs.Admitted.{refusal_in, Admits}
+use Rattle.acceptance.proofs.Accepting.{holds, fails, refused}
+use Rattle.acceptance.proofs.Wanting.{not-zero}
 use Rattle.tree.specs.Words.{Stand, WroteCopy}
 use Rattle.tree.proofs.Standing.{wrote-so-is}
 use Rattle.lines.proofs.Copying.{wrote-not-is}
@@ -31,58 +33,35 @@ use Rattle.driver.proofs.Tabling.{tables-given}
 use Rattle.driver.proofs.Telling.{TreeIn}
 use Rattle.resolver.specs.Trees.{end_in, Stands, WritesTree, Writes, Passed, answer_in, out_in}
 use Rattle.std.specs.Prelude.{None, Option, Some}
-use Rattle.std.specs.Prelude.{Ok, Err}
+use Rattle.std.specs.Prelude.{Ok, Err, MatchResult}
+use denote.Ref.{Bor}
+use Rattle.records.specs.declared.file.File.{File}
+use Rattle.std.specs.Option.{ok_or}
 use Rattle.std.specs.Prelude as std
 use Rattle.definition.specs.declared.answers.Refusal.{Refusal}
 use Rattle.definition.specs.declared.answers.Refusal.TheVariants as refusal
 
--- ---- `is_enough`
-module _ (f : List ℕ) (lines room : ℕ) {n : ℕ} (q : n ≡ line_words f) where
-  pub enough-not : lines < n → false ≡ enough f lines room
-  unfolding enough
-  enough-not h = let k : lines < line_words f = omega arith in rw (lt-leb (line_words f) lines k)
+-- ---- `asked`
+module _ (f : List ℕ) (section number lines room : ℕ) {n : ℕ} (q : n ≡ count f section) where
+  pub asked-not : {x : Refusal} → ◌≡◌ {A = std.Result (Unit {0}) Refusal} (Err x) (pick (ltb number n) (Ok tt) (Err refusal.Missing)) → {r : std.Result (Unit {0}) Refusal} → r ≡ Err x
+      → refusal_in r ≡ need (ltb number (count f section)) 7 (λ u. need (enough f lines room) 10 λ w. 0)
+  unfolding number_of
+  asked-not {x} e h = rw (h, refused (ltb number n) x refusal.Missing e, ← q, fails (ltb number n) x refusal.Missing e)
 
-  pub enough-so : n ≤ lines → {m : ℕ} → m ≡ room_words f → leb m room ≡ enough f lines room
+  pub asked-so : {u : Unit {0}} → ◌≡◌ {A = std.Result (Unit {0}) Refusal} (Ok u) (pick (ltb number n) (Ok tt) (Err refusal.Missing)) → {m : ℕ} → m ≡ line_words f
+      → (r : std.Result (Unit {0}) Refusal) → refusal_in r ≡ need (leb m lines && leb (room_words f) room) 10 (λ u. 0)
+      → refusal_in r ≡ need (ltb number (count f section)) 7 (λ u. need (enough f lines room) 10 λ w. 0)
   unfolding enough
-  enough-so h e = let k : line_words f ≤ lines = omega arith in rw (le-leb (line_words f) lines k, e)
+  asked-so e k r h = rw (← q, holds (ltb number n) refusal.Missing e, ← k) h
 
 -- ---- `admitted`
--- no refusal has the number 0
-pub not-zero : (r : Refusal) → eqb (number_of r) 0 ≡ false
-not-zero r = ne_eqb (number_of r) 0 (λ h. absurd (omega (arith, at-least-one r)))
-
-module _ (f : List ℕ) (section number lines room : ℕ) where
-  pub refused-file : (r : Refusal) → number_of r ≡ verdict f → number_of r ≡ refused_tree f (ltb number (count f section)) lines room
-  unfolding refused_tree
-  refused-file r e = file-refuses f (λ u. need (ltb number (count f section)) 7 λ v. need (enough f lines room) 10 λ w. 0) r e
-
-  module _ {s : List ℕ} (is : s ≡ f) (z : verdict f ≡ 0) {m : ℕ} (c : m ≡ count s section) where
-    passes-verdict : refused_tree f (ltb number (count f section)) lines room ≡ need (ltb number (count f section)) 7 (λ v. need (enough f lines room) 10 λ w. 0)
-    unfolding refused_tree
-    passes-verdict = file-passes f (λ u. need (ltb number (count f section)) 7 λ v. need (enough f lines room) 10 λ w. 0) z
-
-    counted : m ≡ count f section
-    counted = c ∙ ap (λ (l : List ℕ). count l section) is
-
-    pub refused-number : m ≤ number → number_of refusal.Missing ≡ refused_tree f (ltb number (count f section)) lines room
-    unfolding number_of
-    refused-number h =
-        let k : count f section ≤ number = omega (arith, counted) in
-        sym (passes-verdict ∙ ap (λ (b : Bool). need b 7 (λ v. need (enough f lines room) 10 λ w. 0)) (le-ltb number (count f section) k))
-
-    module _ (h : number < m) {b : Bool} (g : b ≡ enough s lines room) where
-      passes-number : refused_tree f (ltb number (count f section)) lines room ≡ need b 10 (λ w. 0)
-      passes-number =
-          let k : number < count f section = omega (arith, counted) in
-          let n : b ≡ enough f lines room = g ∙ ap (λ (l : List ℕ). enough l lines room) is in
-          passes-verdict ∙ ap (λ (b : Bool). need b 7 (λ v. need (enough f lines room) 10 λ w. 0)) (lt-ltb number (count f section) k) ∙ ap (λ (b : Bool). need b 10 (λ w. 0)) (sym n)
-
-      pub refused_none : b ≡ true → refused_tree f (ltb number (count f section)) lines room ≡ 0
-      refused_none p = passes-number ∙ ap (λ (b : Bool). need b 10 (λ w. 0)) p
-
-      pub refused-words : b ≡ false → number_of refusal.Short ≡ refused_tree f (ltb number (count f section)) lines room
-      unfolding number_of
-      refused-words p = sym (passes-number ∙ ap (λ (b : Bool). need b 10 (λ w. 0)) p)
+pub admitted-by : (f : List ℕ) (section number lines room : ℕ) {answers : Bor File → std.Result (Unit {0}) Refusal → Type 0} {r : std.Result File Refusal} → Admits answers f r
+    → ((file : Bor File) (a : std.Result (Unit {0}) Refusal) → answers file a → refusal_in a ≡ need (ltb number (count file.now.source section)) 7 (λ u. need (enough file.now.source lines room) 10 λ w. 0))
+    → MatchResult r (λ file. (file.source ≡ f) × (refused_tree f (ltb number (count f section)) lines room ≡ 0)) (λ refusal. number_of refusal ≡ refused_tree f (ltb number (count f section)) lines room)
+unfolding refused_tree
+admitted-by f section number lines room x h =
+    x.is (λ u. need (ltb number (count f section)) 7 (λ u. need (enough f lines room) 10 λ w. 0))
+    (λ file a q p. h file a p ∙ ap (λ (l : List ℕ). need (ltb number (count l section)) 7 (λ u. need (enough l lines room) 10 λ w. 0)) q)
 
 -- what holds where nothing is refused
 module _ (f : List ℕ) (lines room : ℕ) (s : enough f lines room ≡ true) where
@@ -144,6 +123,14 @@ module _ {room : List ℕ} where
   stands-large large h = let i = h.held in (refl, cc)
 
 -- ---- `write`
+pub copied-so : {x : Option ℕ} {a : std.Result ℕ Refusal} → a ≡ ok_or x refusal.Short → {n : ℕ} → a ≡ Ok n → x ≡ Some n
+copied-so {x = Some y} k {n} i = let e : y ≡ n = cc in ap Some e
+copied-so {x = None} k i = let z : ◌≡◌ {A = ℕ} 0 1 = cc in absurd (omega arith)
+
+pub copied-not : {x : Option ℕ} {a : std.Result ℕ Refusal} → a ≡ ok_or x refusal.Short → {y : Refusal} → a ≡ Err y → (x ≡ None) × (y ≡ refusal.Short)
+copied-not {x = Some n} k i = let z : ◌≡◌ {A = ℕ} 0 1 = cc in absurd (omega arith)
+copied-not {x = None} k {y} i = let e : y ≡ refusal.Short = cc in (refl, e)
+
 module _ {room : List ℕ} {e : ℕ} {old : List ℕ} {x : Option ℕ} {new : List ℕ} (w : WroteCopy room 0 e old 0 x new) where
   copy_test : Bool
   copy_test = leb (0 + e) (length room) && leb (0 + e) (length old)
@@ -170,17 +157,17 @@ module _ {room : List ℕ} {e : ℕ} {old : List ℕ} {x : Option ℕ} {new : Li
     unfolding copy_test
     enough_out i = rw long at (both (leb (0 + e) (length room)) (leb (0 + e) (length old)) (wrote-so-is copy_test w i).0).1
 
-  pub writes-full : x ≡ None → WritesTree room e old (Err refusal.Short) new
+  full : x ≡ None → WritesTree room e old (Err refusal.Short) new
   unfolding number_of words_say tree_answer tree_out over copy_test
-  writes-full i =
+  full i =
       record {
         says = λ t s. rw (short t s i);
         is = λ t s. rw (flatten-length t) (rw (short t s i) (wrote-not-is copy_test w i).1);
       }
 
-  pub writes-tree : {n : ℕ} → x ≡ Some n → WritesTree room e old (Ok (e / 6)) new
+  written : {n : ℕ} → x ≡ Some n → WritesTree room e old (Ok (e / 6)) new
   unfolding number_of words_say tree_answer tree_out over copy_test
-  writes-tree i =
+  written i =
       record {
         says = λ t s. let k : e / 6 ≡ nodes t = omega (arith, long t s) in rw (enough_out t s i, k);
         is = λ t s.
@@ -190,6 +177,13 @@ module _ {room : List ℕ} {e : ℕ} {old : List ℕ} {x : Option ℕ} {new : Li
             let q : take e room ≡ flatten t = s.is in
             rw l ((wrote-so-is copy_test w i).2 ∙ ap (λ (d : ℕ). take e room ++ drop d old) m ∙ ap (λ (ws : List ℕ). ws ++ drop (length (flatten t)) old) q);
       }
+
+  module _ {a : std.Result ℕ Refusal} (k : a ≡ ok_or x refusal.Short) where
+    pub writes-full : {y : Refusal} → a ≡ Err y → {r : std.Result ℕ Refusal} → r ≡ Err y → WritesTree room e old r new
+    writes-full i q = let z = copied-not k i in rw (q, z.1) (full z.0)
+
+    pub writes-tree : {n : ℕ} → a ≡ Ok n → WritesTree room e old (Ok (e / 6)) new
+    writes-tree i = written (copied-so k i)
 
 -- ---- `write_outcome`
 module _ {o : Outcome} {room : List ℕ} where
@@ -215,8 +209,6 @@ module _ {o : Outcome} {room : List ℕ} where
       outcome-full {y} j {r} k = told r (rw (j, k))
 
 pub ruleset writing = (rules, tells-stands, writes-full, writes-tree, writes-large, writes-none, outcome-written, outcome-full)
-
-pub ruleset refusing = (rules, enough-not, enough-so, refused-file, refused-number, refused_none, refused-words)
 
 -- ---- the public functions
 pub cleared-same : {new : List ℕ} (mid old : List ℕ) → new ≡ cleared mid → length mid ≡ length old → new ≡ cleared old

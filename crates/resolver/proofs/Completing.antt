@@ -17,7 +17,8 @@ use Rattle.complete.proofs.Answering.{Takes, Leaves, answer-takes, answer-leaves
 use Rattle.resolver.specs.Trees.{Stands, WritesTree}
 use Rattle.resolver.specs.Completed.{WritesCompleted}
 use Rattle.driver.proofs.Telling.{TreeIn}
-use Rattle.resolver.proofs.Answering.{not-zero, stands-tree, stands_none, stands-large}
+use Rattle.acceptance.proofs.Wanting.{not-zero}
+use Rattle.resolver.proofs.Answering.{stands-tree, stands_none, stands-large}
 use Rattle.std.specs.Prelude.{Option, Some, None, Ok, Err}
 use Rattle.std.specs.Prelude as std
 use Rattle.definition.specs.declared.answers.Refusal.{Refusal}

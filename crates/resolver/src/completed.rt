@@ -31,13 +31,11 @@ fn write_completed(
     let Some(end) = build_tree(file, Owner::Variable(v), lines, room)? else {
         return Ok(None);
     };
-    match completion(&file.source, v, room, 0, end) {
-        Some(kind) => {
-            let nodes = write(&room[..], end, out)?;
-            Ok(Some(Slot { kind, nodes }))
-        }
-        None => Ok(None),
-    }
+    let Some(kind) = completion(&file.source, v, room, 0, end) else {
+        return Ok(None);
+    };
+    let nodes = write(&room[..], end, out)?;
+    Ok(Some(Slot { kind, nodes }))
 }
 
 // The same for the accepted file that these words are. The work words are left as they come.

@@ -48,10 +48,8 @@ pub fn build_tree(
 pub fn write(room: &[u32], end: usize, out: &mut [u32]) -> Result<usize, Refusal>
     ensures { WritesTree room.now end out.old result out.new }
 {
-    match copy(room, 0, end, out, 0) {
-        Some(_) => Ok(end / NODE_WORDS),
-        None => Err(Refusal::Short),
-    }
+    copy(room, 0, end, out, 0).ok_or(Refusal::Short)?;
+    Ok(end / NODE_WORDS)
 }
 
 // An outcome's tree at the front of out.

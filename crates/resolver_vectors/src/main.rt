@@ -10,19 +10,13 @@ use records::source::Source;
 use resolver::completed::completed;
 use resolver::trees::{type_tree, variable_tree};
 use std::io;
-use vector_io::answers::{holds, judged, replay};
+use vector_io::answers::{LENT, MOST_LINES, MOST_ROOM, holds, judged, print_replayed};
 use vector_io::{next_word, read_counted, read_word};
 
 // More words than any stored file has, and than any of its answers.
 const MOST_WORDS: usize = 4096;
 // More files than are stored.
 const MOST_FILES: u32 = 1000;
-// Lines of 20 types, and room of 30 levels: more than any stored file wants.
-const MOST_LINES: usize = 245820;
-
-const MOST_ROOM: usize = 737280;
-// What the words of the answer's slice are before a call.
-const LENT: u32 = 0xA5A5_A5A5;
 
 // The slice holds so many nodes, which are those of the input.
 fn same_nodes(rt: &impl Input, out: &[u32], nodes: u32) -> io::Result<bool> {
@@ -66,15 +60,25 @@ fn same_completed(
     Ok(is_completed(answer, state, kind, nodes) & same_nodes(rt, out, nodes)?)
 }
 
-// What an answer of a section adds to the right ones.
-fn section_judged(
+// Each number of a section is asked for in a slice of fresh words, and its answer told apart by the numbers of file, section and itself.
+fn replay_section<F: FnMut(u32, &mut [u32]) -> io::Result<bool>>(
     rt: &impl Print,
-    right: bool,
     k: u32,
     section: u32,
-    number: u32,
-) -> io::Result<Option<u64>> {
-    Ok(Some(judged(rt, right, format_args!("{k}\n{section}\n{number}"))?))
+    many: u32,
+    out: &mut [u32],
+    mut is_right: F,
+) -> io::Result<u64>
+    requires { F.IsAlwaysCallable is_right }
+{
+    let mut sum: u64 = 0;
+    for number in 0..many {
+        out.fill(LENT);
+        let right = is_right(number, out)?;
+        let place = format_args!("{k}\n{section}\n{number}");
+        sum = sum.wrapping_add(judged(rt, right, place)?);
+    }
+    Ok(sum)
 }
 
 fn replay_answers(
@@ -88,20 +92,14 @@ fn replay_answers(
     let source = Source::new(file);
     let types = source.count(TYPES);
     let variables = source.count(VARIABLES);
-    let first = replay(types, |number| {
-        out.fill(LENT);
-        let answer = type_tree(file, number, out, lines, room);
-        section_judged(rt, same_tree(rt, answer, out)?, k, 0, number)
+    let first = replay_section(rt, k, 0, types, out, |number, out| {
+        same_tree(rt, type_tree(file, number, out, lines, room), out)
     })?;
-    let second = replay(variables, |number| {
-        out.fill(LENT);
-        let answer = variable_tree(file, number, out, lines, room);
-        section_judged(rt, same_tree(rt, answer, out)?, k, 1, number)
+    let second = replay_section(rt, k, 1, variables, out, |number, out| {
+        same_tree(rt, variable_tree(file, number, out, lines, room), out)
     })?;
-    let third = replay(variables, |number| {
-        out.fill(LENT);
-        let answer = completed(file, number, out, lines, room);
-        section_judged(rt, same_completed(rt, answer, out)?, k, 2, number)
+    let third = replay_section(rt, k, 2, variables, out, |number, out| {
+        same_completed(rt, completed(file, number, out, lines, room), out)
     })?;
     Ok(first.wrapping_add(second).wrapping_add(third))
 }
@@ -148,8 +146,11 @@ fn replay_all(
     lines: &mut [u32],
     room: &mut [u32],
 ) -> io::Result<()> {
-    let right = replay(MOST_FILES, |k| replay_file(rt, k, words, out, lines, room))?;
-    rt.println(right)
+    print_replayed(
+        rt,
+        MOST_FILES,
+        |k| replay_file(rt, k, words, out, lines, room),
+    )
 }
 
 fn main(rt: HostRuntime) -> io::Result<()> {

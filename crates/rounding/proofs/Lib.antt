@@ -1,3 +1,3 @@
 pub mod Laws
-pub mod Nearest
+pub mod Closest
 pub mod Single

@@ -1,7 +1,7 @@
 // An integer as a REAL or an LREAL: rounded once to the nearest value, ties to even, and given as the bits of an f64 (the Rust's `as f64` and `as f32`).
 #![tactic(auto, using(crate::proofs::Laws::laws))]
 
-ghost use Rattle.std.specs.Prelude.{◌≡◌, ◌^◌, false, to_bits};
+ghost use Rattle.std.specs.Prelude.{◌≡◌, ◌+◌, ◌^◌, ◌<◌, false, to_bits};
 ghost use Rattle.std.specs.Float.{binary32, binary64};
 ghost use Rattle.std.specs.Float.Ieee.{round};
 ghost use Rattle.std.specs.Float.Ieee.Nearest.{closest};
@@ -16,14 +16,15 @@ pub fn lreal(size: u64) -> u64
     f64::to_bits(high + low)
 }
 
-// The 24 highest of 64 bits, rounded by the highest bit below them and by whether any bit below that is set.
-#[tactic(auto, using(crate::proofs::Nearest::laws))]
-fn highest(bits: u64) -> u64
-    ensures { result ≡ closest bits (2 ^ 40) }
+// The digits above the `below` + 1 lowest, rounded by the highest digit dropped and by whether any digit below that is set.
+#[tactic(auto, using(crate::proofs::Closest::laws))]
+pub fn nearest(size: u64, below: u64) -> u64
+    requires { below < 63 }
+    ensures { result ≡ closest size (2 ^ (below + 1)) }
 {
-    let kept = bits >> 40;
-    let half = (bits >> 39) & 1;
-    let sticky = bits & 0x7f_ffff_ffff;
+    let kept = size >> (below + 1);
+    let half = (size >> below) & 1;
+    let sticky = size & ((1 << below) - 1);
     if half == 0 {
         return kept;
     }
@@ -42,7 +43,7 @@ pub fn real(size: u64) -> u64
         return 0;
     }
     let zeros = u64::leading_zeros(size) as u64;
-    let kept = highest(size << zeros);
+    let kept = nearest(size << zeros, 39);
     ((1085 - zeros) << 52) + (kept << 29)
 }
 

@@ -65,10 +65,7 @@ pub fn link_to<F: Fn(u32) -> bool>(link: u32, rule: F) -> bool
     ensures none { link ≡ 0 → result ≡ true }
     ensures some { (n : ℕ) → link ≡ suc n → F.post rule n result }
 {
-    if link == 0 {
-        return true;
-    }
-    rule(link - 1)
+    link.checked_sub(1).is_none_or(rule)
 }
 
 // No link, or one to a constant of a kind.
@@ -95,10 +92,10 @@ pub fn link_to_reference(file: &Source<'_>, link: u32) -> bool
 pub fn start_in(file: &Source<'_>, link: u32) -> bool
     ensures { result ≡ on_link link false (Accept.number_in file.now initializers) }
 {
-    if link == 0 {
+    let Some(i) = link.checked_sub(1) else {
         return false;
-    }
-    number_in(file, INITIALIZERS, link - 1)
+    };
+    number_in(file, INITIALIZERS, i)
 }
 
 // A type's name: a link, or inline where that is allowed.

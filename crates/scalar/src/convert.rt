@@ -8,31 +8,17 @@ ghost use Rattle.laws.specs.Bits.{Bits};
 ghost use Rattle.definition.specs.Ask.{result_of};
 ghost use Rattle.scalar.specs.Convert.{as_string_by, converted_by, Counts};
 
+use crate::node::of_kind;
 use crate::string::cut_string;
 use definition::records::{Constant, Shape};
 use ranges::range::{fits, negative, size, within};
 use rounding::rounded;
 
 #[tactic(auto, using(crate::proofs::convert::Laws::laws))]
-fn kept(test: bool, c: Constant) -> Option<Constant>
-    ensures { result_of result ≡ scalar.kept test c }
-{
-    if test {
-        return Some(c);
-    }
-    None
-}
-
-#[tactic(auto, using(crate::proofs::convert::Laws::laws))]
 fn is_bit(c: Constant) -> bool
     ensures { result ≡ scalar.is_integer c && eqb c.sign 0 && leb (scalar.size_of c) 1 }
 {
-    if c.kind == 1 {
-        if c.sign == 0 {
-            return size(c) <= 1;
-        }
-    }
-    false
+    c.kind == 1 && c.sign == 0 && size(c) <= 1
 }
 
 // BOOL takes the integers 0 and 1, which become FALSE and TRUE, and booleans: no bit string.
@@ -41,25 +27,16 @@ fn as_bool(c: Constant) -> Option<Constant>
     ensures { result_of result ≡ scalar.as_bool c }
 {
     if is_bit(c) {
-        return Some(Constant {
-            kind: 0,
-            sign: 0,
-            low: c.low,
-            high: 0,
-            width: 0,
-        });
+        return Some(of_kind(0, c.low, 0));
     }
-    kept(c.kind == 0, c)
+    (c.kind == 0).then_some(c)
 }
 
 #[tactic(auto, using(crate::proofs::convert::Laws::laws))]
 fn is_whole(c: Constant) -> bool
     ensures { result ≡ scalar.is_integer c || eqb c.kind 2 }
 {
-    if c.kind == 1 {
-        return true;
-    }
-    c.kind == 2
+    c.kind == 1 || c.kind == 2
 }
 
 // Integers and bit strings stay what they are.
@@ -67,10 +44,7 @@ fn is_whole(c: Constant) -> bool
 fn as_integer(test: bool, c: Constant) -> Option<Constant>
     ensures { result_of result ≡ scalar.kept ((scalar.is_integer c || eqb c.kind 2) && test) c }
 {
-    if is_whole(c) {
-        return kept(test, c);
-    }
-    None
+    (is_whole(c) && test).then_some(c)
 }
 
 // REAL literals are kept bit for bit, integers are rounded.
@@ -80,15 +54,9 @@ fn as_real(bits: u32, c: Constant) -> Option<Constant>
 {
     if c.kind == 1 {
         let r = rounded(bits, negative(c), size(c));
-        return Some(Constant {
-            kind: 3,
-            sign: 0,
-            low: (r & 0xffff_ffff) as u32,
-            high: (r >> 32) as u32,
-            width: 0,
-        });
+        return Some(of_kind(3, (r & 0xffff_ffff) as u32, (r >> 32) as u32));
     }
-    kept(c.kind == 3, c)
+    (c.kind == 3).then_some(c)
 }
 
 // A time or a date takes only its own kind.
@@ -96,10 +64,7 @@ fn as_real(bits: u32, c: Constant) -> Option<Constant>
 fn as_count(kind: u32, test: bool, c: Constant) -> Option<Constant>
     ensures { result_of result ≡ scalar.kept (eqb c.kind kind && test) c }
 {
-    if c.kind == kind {
-        return kept(test, c);
-    }
-    None
+    (c.kind == kind && test).then_some(c)
 }
 
 #[tactic(auto, using(crate::proofs::convert::Laws::laws))]

@@ -8,7 +8,7 @@ ghost use Rattle.definition.specs.Scalar.{as_tree};
 ghost use Rattle.definition.specs.Ask.{result_of};
 ghost use Rattle.scalar.specs.Default.{implicit_by};
 
-use crate::node::{enumerated, null};
+use crate::node::{enumerated, null, of_kind};
 use crate::string::cut_string;
 use definition::records::{Constant, Shape};
 
@@ -24,11 +24,8 @@ fn zero_of(kind: u32, width: u32) -> Option<Constant>
     ensures { as_tree (result_of result) ≡ scalar.zero_of kind width }
 {
     Some(Constant {
-        kind,
-        sign: 0,
-        low: 0,
-        high: 0,
         width,
+        ..of_kind(kind, 0, 0)
     })
 }
 
@@ -37,10 +34,8 @@ fn as_integer(c: Constant) -> Option<Constant>
 {
     Some(Constant {
         kind: 1,
-        sign: c.sign,
-        low: c.low,
-        high: c.high,
         width: 0,
+        ..c
     })
 }
 
@@ -69,12 +64,7 @@ pub fn implicit_default(
             count,
             default,
             underlying: _,
-        } => {
-            if default < count {
-                return Some(enumerated(member, 0));
-            }
-            None
-        }
+        } => { (default < count).then_some(enumerated(member, 0)) }
         Shape::Subrange { .. } => as_integer(least),
         Shape::Reference { .. } => Some(null()),
         _ => None,

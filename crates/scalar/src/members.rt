@@ -4,22 +4,15 @@
 ghost use Rattle.std.specs.Prelude.{◌≡◌};
 ghost use Rattle.definition.specs.Scalar.{as_tree};
 ghost use Rattle.definition.specs.Ask.{result_of};
-ghost use Rattle.scalar.specs.Members.{is_named, enumerated_by};
+ghost use Rattle.scalar.specs.Members.{enumerated_by};
 
 use crate::node::enumerated;
 use definition::records::Constant;
 
-pub fn is_member(members: &[u32], value: u32) -> bool
-    ensures { result ≡ is_named members.now value }
-{
-    members.contains(&value)
-}
-
 pub fn from_enumerated_value(members: &[u32], value: u32, qualifier: u32) -> Option<Constant>
     ensures { as_tree (result_of result) ≡ enumerated_by members.now value qualifier }
 {
-    if is_member(members, value) {
-        return Some(enumerated(value, qualifier));
-    }
-    None
+    members
+        .contains(&value)
+        .then_some(enumerated(value, qualifier))
 }

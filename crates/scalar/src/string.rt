@@ -11,27 +11,20 @@ use definition::records::Constant;
 pub fn max_length(length: u32, setting: u32) -> Option<u32>
     ensures { result_of result ≡ max_length_by setting length }
 {
-    if length == 0 {
+    let Some(declared) = length.checked_sub(1) else {
         return Some(setting);
-    }
-    if length - 1 <= 65535 {
-        return Some(length - 1);
-    }
-    None
+    };
+    (declared <= 65535).then_some(declared)
 }
 
 // A run as a constant with its last word: without characters it begins at 0.
 pub fn string_constant(first: u32, count: u32, last: u32) -> Constant
     ensures { result ≡ string_of first count last }
 {
-    let mut low = first;
-    if count == 0 {
-        low = 0;
-    }
     Constant {
         kind: 8,
         sign: 0,
-        low,
+        low: if count == 0 { 0 } else { first },
         high: count,
         width: last,
     }
@@ -42,9 +35,7 @@ pub fn cut_string(length: u32, width: u32, first: u32, count: u32, setting: u32)
     requires { Countable width count }
     ensures { result_of result ≡ cut_by setting length width first count }
 {
-    let Some(most) = max_length(length, setting) else {
-        return None;
-    };
+    let most = max_length(length, setting)?;
     let held = count.min(most);
     Some(string_constant(first, held, width + 2 * (count - held)))
 }

@@ -5,22 +5,17 @@
 
 use start_values::convert::wirkesu_convert;
 use std::io;
-use vector_io::answers::{judged, replay};
+use vector_io::answers::{LENT, judged, print_replayed, replay};
 use vector_io::{read_counted, read_word, read_words};
 
 // More words than any stored file has.
 const MOST_WORDS: usize = 70000;
 // More files than are stored.
 const MOST_FILES: u32 = 1000;
-// What the words of the lent slice are before a conversion.
-const LENT: u32 = 0xA5A5_A5A5;
 
 // What the library answers for a stored state: 1 node for a value, 0 for none.
 fn answer_for(state: u32) -> u64 {
-    if state == 0 {
-        return 1;
-    }
-    0
+    u64::from(state == 0)
 }
 
 // The first six words of the lent slice are the stored ones, and the word behind them is what it was.
@@ -50,7 +45,7 @@ fn replay_file(rt: &(impl Input + Print), words: &mut [u32]) -> io::Result<Optio
 }
 
 fn replay_all(rt: &(impl Input + Print), words: &mut [u32]) -> io::Result<()> {
-    rt.println(replay(MOST_FILES, |_| replay_file(rt, words))?)
+    print_replayed(rt, MOST_FILES, |_| replay_file(rt, words))
 }
 
 fn main(rt: HostRuntime) -> io::Result<()> {

@@ -1,49 +1,49 @@
 -- Comparing shapes: classes, links, runs, and the lowest shape that is like another. Assumes nothing.
 use mathlib.Core.Path.{◌≡◌, refl, sym, ◌∙◌}
 use mathlib.Core.Bool.{Bool, true, false, and-true, and-false}
-use mathlib.Core.List.{List, [], ◌∷◌}
+use mathlib.Core.List.{List}
+use Rattle.std.specs.Bool.{⊤}
 use Prim.Native.Nat.{ℕ, zero, suc, ◌+◌, ◌-◌, ◌<◌, ◌≤◌}
+use denote.Ref.{Bor}
+use denote.Param.Members.{Mut}
+use Rattle.std.specs.Prelude.{Option, Some, None, unwrap_or}
+use Rattle.std.specs.Fn.{CalledAt}
+use Rattle.std.specs.List.{FoldsTo}
+use Rattle.std.specs.Option.{SomeIff, MatchOption}
+use Rattle.std.specs.Iterator.{YieldsThen}
+use Rattle.std.specs.declared.ops.Range.{Range}
+use Rattle.std.proofs.iter.Yields.{nat_range_steps}
+use Rattle.std.proofs.lemmas.Iterator.{first_from_Range}
 use native.Mathlib.Omega.{arith}
 use native.Mathlib.Decide.{ℕ_discrete}
-use native.Mathlib.Numerals.{add-one}
 use lib.Dec.{eqb, ltb}
-use lib.ListN.{length, get_or, get_or-eq_default}
-use borrow.Author.Rules.{rules}
 use borrow.Author.Tests.{eq-eqb, ne_eqb, lt-ltb, le-ltb, ltb-true, ltb-false}
 use Rattle.definition.specs.Base.{pick, every}
 use Rattle.definition.specs.Layout.{shapes, word}
 use Rattle.definition.specs.Records.{shape_of, shape_at}
 use Rattle.definition.specs.Accept.{same_member, same_dimension, listed, same_link, like_by, shapes_like}
 use Rattle.laws.specs.Cases.{never, by_kind}
-use Rattle.shapes.specs.Alike.{class_in, same_in, like_at, told_by_first, words_like, members_like, array_like, lowest}
+use Rattle.shapes.specs.Alike.{same_in, like_at, told_by_first, words_like, members_like, array_like, lowest}
 use Rattle.records.proofs.Listed.{more, agree_at, in-run, past}
 use Rattle.records.proofs.Scanning.{scans}
 
--- ---- classes
-pub class-there : (l : List ℕ) (n : ℕ) → n < length l → get_or l n 0 ≡ class_in l n
-class-there l n h = go l n n h
-  where
-    go : (l : List ℕ) (n d : ℕ) → n < length l → get_or l n 0 ≡ get_or l n d
-    go [] n d h = absurd (omega arith)
-    go (x ∷ l) zero d h = refl
-    go (x ∷ l) (suc n) d h = go l n d (omega arith)
-
-pub class-past : (l : List ℕ) (n : ℕ) → length l ≤ n → n ≡ class_in l n
-class-past l n h = sym (get_or-eq_default l n h)
-
 -- ---- links
-module _ (same : ℕ → ℕ → Bool) (m n : ℕ) where
-  pub link-none : m ≡ 0 → eqb n 0 ≡ same_link same m n
+module _ (same : ℕ → ℕ → Bool) (m n : ℕ) {o : Option ℕ} (a : SomeIff o (1 ≤ m) (m - 1)) where
+  pub link-none : o ≡ None → eqb n 0 ≡ same_link same m n
   unfolding same_link
-  link-none e = rw e
+  link-none e = let k : (1 ≤ m → ⊥) = (rw e at a) in let q : m ≡ 0 = omega (arith, k) in rw q
 
-  pub link-one : (m ≡ 0 → ⊥) → n ≡ 0 → false ≡ same_link same m n
-  unfolding same_link
-  link-one p e = let q : m ≡ suc (m - 1) = omega (arith, p) in rw (q, e)
+  first-there : {i : ℕ} → o ≡ Some i → m ≡ suc i
+  first-there {i} e = let k : (1 ≤ m) × (i ≡ m - 1) = (rw e at a) in omega (arith, k.0, k.1)
 
-  pub link-both : (m ≡ 0 → ⊥) → (n ≡ 0 → ⊥) → {r : Bool} → r ≡ same (m - 1) (n - 1) → r ≡ same_link same m n
-  unfolding same_link
-  link-both p o h = let q : m ≡ suc (m - 1) = omega (arith, p) in let k : n ≡ suc (n - 1) = omega (arith, o) in rw (q, k) h
+  module _ {i : ℕ} (e : o ≡ Some i) {p : Option ℕ} (b : SomeIff p (1 ≤ n) (n - 1)) where
+    pub link-one : p ≡ None → false ≡ same_link same m n
+    unfolding same_link
+    link-one h = let k : (1 ≤ n → ⊥) = (rw h at b) in let q : n ≡ 0 = omega (arith, k) in rw (first-there e, q)
+
+    pub link-both : {j : ℕ} → p ≡ Some j → {r : Bool} → r ≡ same i j → r ≡ same_link same m n
+    unfolding same_link
+    link-both {j} h g = let k : (1 ≤ n) × (j ≡ n - 1) = (rw h at b) in let q : n ≡ suc j = omega (arith, k.0, k.1) in rw (first-there e, q) g
 
 -- ---- runs
 module _ (same : ℕ → ℕ → Bool) (a m b n : ℕ) where
@@ -168,34 +168,35 @@ module _ (f classes : List ℕ) (enumerated : Bool) (m n : ℕ) where
     array-go h l = rw (← q, h) l
 
 -- ---- the lowest that meets a test
--- none below n does
-pub record None (p : ℕ → Bool) (n : ℕ) : Type 0 where
-  pub far : lowest p n ≡ n
-
-pub none_below : (p : ℕ → Bool) → None p 0
-unfolding lowest
-none_below p = record { far = refl }
-
-module _ {p : ℕ → Bool} {n : ℕ} (i : None p n) {r : Bool} (e : r ≡ p n) where
-  pub not-here : r ≡ false → None p (n + 1)
+module _ (p : ℕ → Bool) where
+  none-lower : (n : ℕ) → ((k : ℕ) → k < n → p k ≡ false) → lowest p n ≡ n
   unfolding lowest
-  not-here h = record { far = rw (add-one, i.far, le-ltb n n (omega arith), ← e, h) }
+  none-lower zero h = refl
+  none-lower (suc n) h = rw (none-lower n (λ k l. h k (omega arith)), le-ltb n n (omega arith), h n (omega arith))
 
-  pub found_here : r ≡ true → (m : ℕ) → n < m → n ≡ lowest p m
+  first-lower : (n i : ℕ) → i < n → p i ≡ true → ((k : ℕ) → k < i → p k ≡ false) → lowest p n ≡ i
   unfolding lowest
-  found_here h zero l = absurd (omega arith)
-  found_here h (suc m) l = go (ℕ_discrete n m) (found_here h m)
+  first-lower zero i l t h = absurd (omega arith)
+  first-lower (suc n) i l t h = go (ℕ_discrete i n) (first-lower n i)
     where
-      go : Dec (n ≡ m) → (n < m → n ≡ lowest p m) → n ≡ pick (ltb (lowest p m) m) (lowest p m) (pick (p m) m (suc m))
-      go (yes q) ih = rw (← q, i.far, le-ltb n n (omega arith), ← e, h)
-      go (no q) ih = let z : n < m = omega (arith, q) in rw (← ih z, lt-ltb n m z)
+      go : Dec (i ≡ n) → (i < n → p i ≡ true → ((k : ℕ) → k < i → p k ≡ false) → lowest p n ≡ i) → pick (ltb (lowest p n) n) (lowest p n) (pick (p n) n (suc n)) ≡ i
+      go (yes q) ih = let t' : p n ≡ true = rw q at t in rw (q, none-lower n (rw q at h), le-ltb n n (omega arith), t')
+      go (no q) ih = let z : i < n = omega (arith, q) in rw (ih z t h, lt-ltb i n z)
 
-pub none_at_all : {p : ℕ → Bool} {n : ℕ} → None p n → (m : ℕ) → n ≤ m → m ≤ n → m ≡ lowest p m
-none_at_all {n = n} i m h l = let e : m ≡ n = omega arith in rw e (sym i.far)
+-- as the library's `find` over a range says it
+module _ (p : ℕ → Bool) {F : Type 0} {g : Mut F (Bor ℕ × Unit {0}) Bool} (s u : Range ℕ) (f : F) where
+  pub lowest-found : (n : ℕ) (r : Option ℕ) {m : ℕ}
+      → (xs : List ℕ) × (j : F) × YieldsThen nat_range_steps s xs r u × FoldsTo (λ p x q. CalledAt g p x false q) f xs j × MatchOption r ⊤ (λ x. (h : F) × CalledAt g j x true h)
+      → s ≡ record { start = 0; end = n } → ((x : ℕ) (b : Bool) (q : F) → CalledAt g f x b q → (q ≡ f) × (b ≡ p x)) → m ≡ unwrap_or r n → m ≡ lowest p n
+  lowest-found n r {m} ran e k h =
+      let d = first_from_Range s u f r (λ x. p x ≡ true) (λ x. p x ≡ false) ran (λ x q c. sym (k x true q c).1) (λ x q c. let w = k x false q c in (w.0, sym w.1)) in
+      h ∙ go r (rw e at d)
+    where
+      go : (r : Option ℕ) → MatchOption r ((k : ℕ) → 0 ≤ k → k < n → p k ≡ false) (λ i. (0 ≤ i) × (i < n) × (p i ≡ true) × ((k : ℕ) → 0 ≤ k → k < i → p k ≡ false)) → unwrap_or r n ≡ lowest p n
+      go None d = sym (none-lower p n (λ k l. d k (omega arith) l))
+      go (Some i) d = sym (first-lower p n i d.1 d.2 (λ k l. d.3 k (omega arith) l))
 
 pub ruleset comparing =
     (scans, link-none, link-one, link-both, runs-differ, runs-are, kinds-differ, kinds-are, told-apart, by-sizes, by_names, by-target, no_kind, members-free, members-stop, members-go, array-stop, array-go)
-
-pub ruleset lowests = (rules, none_below, not-here, found_here, none_at_all)
 
 pub ruleset telling = (told-bool, told-sizes, told-inside, told_names, told-other)

@@ -14,11 +14,7 @@ use records::source::Source;
 fn class_in(classes: &[u32], n: u32) -> u32
     ensures { result ≡ class_in classes.now n }
 {
-    let at = n as usize;
-    if at < classes.len() {
-        return classes[at];
-    }
-    n
+    classes.get(n as usize).copied().unwrap_or(n)
 }
 
 pub fn same_in(classes: &[u32], m: u32, n: u32) -> bool
@@ -30,13 +26,13 @@ pub fn same_in(classes: &[u32], m: u32, n: u32) -> bool
 pub fn same_link(classes: &[u32], m: u32, n: u32) -> bool
     ensures { result ≡ Accept.same_link (same_in classes.now) m n }
 {
-    if m == 0 {
+    let Some(a) = m.checked_sub(1) else {
         return n == 0;
-    }
-    if n == 0 {
+    };
+    let Some(b) = n.checked_sub(1) else {
         return false;
-    }
-    same_in(classes, m - 1, n - 1)
+    };
+    same_in(classes, a, b)
 }
 
 // Word `place` is the same in records `a + j` and `b + j`.
@@ -81,7 +77,7 @@ pub fn same_runs<F: Fn(u32, u32, u32) -> bool>(
     place: usize,
 ) -> bool
     requires place { place < 15 }
-    requires pre { (f : F) (a : _) (b : _) (j : _) → F.pre f a b j }
+    requires pre { F.IsAlwaysCallable same }
     ensures { ListedBy (F.post same)
         (Layout.word file.now shapes m place) (Layout.word file.now shapes m (place + 1))
         (Layout.word file.now shapes n place) (Layout.word file.now shapes n (place + 1)) result }

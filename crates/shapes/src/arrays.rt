@@ -5,6 +5,7 @@ ghost use Rattle.std.specs.Prelude.{◌≡◌, ◌+◌, ◌^◌, ◌≤◌, min}
 ghost use Rattle.definition.specs.Accept.{dimension_span, elements_of, array_small, arrays_small};
 
 use definition::layout::{DIMENSIONS, SHAPES};
+use definition::records::Shape;
 use plain::words::biased;
 use records::source::Source;
 
@@ -24,33 +25,31 @@ pub fn dimension_span(file: &Source<'_>, first: u32, j: u32) -> u64
     upper + 1 - lower
 }
 
-// Past the most elements it does not matter how many there are, and a product stays small.
-fn capped(n: u64) -> u64
-    ensures { result ≡ min n 65537 }
+// How many elements so many dimensions count together, up to a cap: past it, it does not matter how many there are.
+pub fn product_up_to(file: &Source<'_>, first: u32, many: u32, most: u64) -> u64
+    ensures { result ≡ min (elements_of file.now first many) most }
 {
-    n.min(MOST_ELEMENTS + 1)
+    (0..many).fold(most.min(1), |product, j| {
+        product
+            .saturating_mul(dimension_span(file, first, j))
+            .min(most)
+    })
 }
 
+// Up to one past the most elements.
 pub fn elements(file: &Source<'_>, first: u32, many: u32) -> u64
     ensures { result ≡ min (elements_of file.now first many) 65537 }
 {
-    let mut product: u64 = 1;
-    for j in 0..many {
-        product = capped(product * dimension_span(file, first, j));
-    }
-    product
+    product_up_to(file, first, many, MOST_ELEMENTS + 1)
 }
 
 fn array_small(file: &Source<'_>, n: u32) -> bool
     ensures { result ≡ array_small file.now n }
 {
-    let kind = file.word(SHAPES, n, 0);
-    if kind != 12 {
+    let Shape::Array { first, count, .. } = file.shape(n) else {
         return true;
-    }
-    let first = file.word(SHAPES, n, 2);
-    let many = file.word(SHAPES, n, 3);
-    elements(file, first, many) <= MOST_ELEMENTS
+    };
+    elements(file, first, count) <= MOST_ELEMENTS
 }
 
 // An array shape has more than 65,536 elements.

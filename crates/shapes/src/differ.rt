@@ -10,7 +10,7 @@ ghost use Rattle.definition.specs.Accept.{shapes_differ};
 ghost use Rattle.shapes.specs.Keys.{Keyed};
 
 use crate::keys::fill_keys;
-use crate::like::{shapes_like, told};
+use crate::like::Sought;
 use definition::layout::SHAPES;
 use records::source::Source;
 
@@ -21,10 +21,7 @@ const MOST_SHAPES: usize = 1024;
 fn alike(file: &Source<'_>, m: u32, n: u32) -> bool
     ensures { result ≡ Accept.alike file.now m n }
 {
-    let kind = file.word(SHAPES, n, 0);
-    let first = file.word(SHAPES, n, 1);
-    let tells = told(kind);
-    shapes_like(file, &[], true, kind, first, tells, m, n)
+    Sought::new(file, &[], true, n).is_like(m)
 }
 
 // Shapes of different keys are not compared any further.

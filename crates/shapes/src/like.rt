@@ -16,7 +16,7 @@ fn same_word(file: &Source<'_>, section: usize, m: u32, n: u32, place: usize) ->
     requires { (section < 14) × (place < 16) }
     ensures { result ≡ eqb (Layout.word file.now section m place) (Layout.word file.now section n place) }
 {
-    file.word(section, m, place) == file.word(section, n, place)
+    same_run_word(file, section, m, n, 0, place)
 }
 
 // Word `place` of two shapes stands for the same shape.
@@ -44,111 +44,159 @@ fn same_bound(file: &Source<'_>, m: u32, n: u32, place: usize) -> bool
         & same_word(file, CONSTANTS, c, d, 3)
 }
 
-// Members and default, where they count.
-fn members_like(file: &Source<'_>, classes: &[u32], enumerated: bool, m: u32, n: u32) -> bool
-    ensures { result ≡ members_like file.now classes.now enumerated m n }
-{
-    if !enumerated {
-        return true;
-    }
-    if !same_word(file, SHAPES, m, n, 3) {
-        return false;
-    }
-    same_runs(
-        file,
-        |a, b, j| same_run_word(file, MEMBERS, a, b, j, 0),
-        m,
-        n,
-        1,
-    )
-}
-
-#[tactic(auto, using(crate::proofs::Comparing::comparing), unfolding(crate::specs::Alike::like_at, crate::specs::Alike::members_like, definition::specs::Accept::like_by, definition::specs::Records::shape_of))]
-fn enumeration_like(file: &Source<'_>, classes: &[u32], enumerated: bool, m: u32, n: u32) -> bool
-    ensures { result ≡ like_at file.now classes.now enumerated 10 m n }
-{
-    let underlying = file.word(SHAPES, m, 4);
-    let other = file.word(SHAPES, n, 4);
-    members_like(file, classes, enumerated, m, n) & same_link(classes, underlying, other)
-}
-
-fn array_like(file: &Source<'_>, classes: &[u32], m: u32, n: u32) -> bool
-    ensures { result ≡ array_like file.now classes.now m n }
-{
-    if !same_inside(file, classes, m, n, 1) {
-        return false;
-    }
-    same_runs(file, |a, b, j| same_dimension(file, a, b, j), m, n, 2)
-}
-
-#[tactic(auto, using(crate::proofs::Comparing::comparing), unfolding(crate::specs::Alike::like_at, definition::specs::Accept::like_by, definition::specs::Records::shape_of))]
-fn subrange_like(file: &Source<'_>, classes: &[u32], m: u32, n: u32) -> bool
-    ensures { result ≡ like_at file.now classes.now true 13 m n }
-{
-    same_inside(file, classes, m, n, 1) & same_bound(file, m, n, 2) & same_bound(file, m, n, 3)
-}
-
-// Shapes m and n of one kind whose words lead on: to runs, shapes or constants.
-#[tactic(auto, using(crate::proofs::Comparing::comparing), unfolding(crate::specs::Alike::array_like, crate::specs::Alike::like_at, definition::specs::Accept::like_by, definition::specs::Records::shape_of))]
-fn inside_like(
-    file: &Source<'_>,
-    classes: &[u32],
+// Shape n of a file, to which others of the file are compared: a shape inside by the class that stands for it, and members of enumerations where they count.
+#[derive(Drop)]
+pub struct Sought<'a, 'b> {
+    file: &'a Source<'b>,
+    classes: &'a [u32],
     enumerated: bool,
-    kind: u32,
-    m: u32,
     n: u32,
-) -> bool
-    requires { (10 ≤ kind) × (kind < 14) }
-    ensures { result ≡ like_at file.now classes.now enumerated kind m n }
-{
-    match kind {
-        10 => enumeration_like(file, classes, enumerated, m, n),
-        11 => same_runs(file, |a, b, j| same_field(file, classes, a, b, j), m, n, 1),
-        12 => array_like(file, classes, m, n),
-        _ => subrange_like(file, classes, m, n),
-    }
-}
-
-// Shapes m and n have the same first word, which the caller has read for n.
-fn same_first(file: &Source<'_>, first: u32, m: u32, n: u32) -> bool
-    requires { first ≡ Layout.word file.now shapes n 1 }
-    ensures { result ≡ eqb (Layout.word file.now shapes m 1) (Layout.word file.now shapes n 1) }
-{
-    file.word(SHAPES, m, 1) == first
-}
-
-// Shapes m and n of one kind whose own words say all.
-#[tactic(auto, using(crate::proofs::Comparing::first_word), unfolding(crate::specs::Alike::words_like))]
-fn words_like(file: &Source<'_>, kind: u32, first: u32, m: u32, n: u32) -> bool
-    requires { first ≡ Layout.word file.now shapes n 1 }
-    ensures { result ≡ words_like file.now kind m n }
-{
-    match kind {
-        0 => true,
-        9 => same_first(file, first, m, n) & same_word(file, SHAPES, m, n, 2),
-        _ => same_first(file, first, m, n),
-    }
-}
-
-// Shapes m and n of one kind.
-fn like(
-    file: &Source<'_>,
-    classes: &[u32],
-    enumerated: bool,
+    // its first two words, and whether the second tells shapes of its kind apart
     kind: u32,
     first: u32,
-    m: u32,
-    n: u32,
-) -> bool
-    requires { first ≡ Layout.word file.now shapes n 1 }
-    ensures { result ≡ like_at file.now classes.now enumerated kind m n }
-{
-    match kind {
-        16 => same_inside(file, classes, m, n, 1),
-        0..=9 => words_like(file, kind, first, m, n),
-        10..=13 => inside_like(file, classes, enumerated, kind, m, n),
-        14..=15 => words_like(file, kind, first, m, n),
-        _ => false,
+    tells: bool,
+    ghost kind_is: { kind ≡ Layout.word file.now shapes n 0 },
+    ghost first_is: { first ≡ Layout.word file.now shapes n 1 },
+    ghost tells_is: { tells ≡ told_by_first kind },
+}
+
+impl<'a, 'b> Sought<'a, 'b> {
+    pub fn new(file: &'a Source<'b>, classes: &'a [u32], enumerated: bool, n: u32) -> Sought<'a, 'b>
+        ensures file { result.file.now ≡ file.now }
+        ensures classes { result.classes.now ≡ classes.now }
+        ensures enumerated { result.enumerated ≡ enumerated }
+        ensures n { result.n ≡ n }
+    {
+        let kind = file.word(SHAPES, n, 0);
+        let first = file.word(SHAPES, n, 1);
+        let tells = told(kind);
+        Sought {
+            file,
+            classes,
+            enumerated,
+            n,
+            kind,
+            first,
+            tells,
+        }
+    }
+
+    // Members and default, where they count.
+    fn members_like(&self, m: u32) -> bool
+        ensures { result ≡ members_like self.now.file.now self.now.classes.now self.now.enumerated m self.now.n }
+    {
+        if !self.enumerated {
+            return true;
+        }
+        let file = self.file;
+        if !same_word(file, SHAPES, m, self.n, 3) {
+            return false;
+        }
+        same_runs(
+            file,
+            |a, b, j| same_run_word(file, MEMBERS, a, b, j, 0),
+            m,
+            self.n,
+            1,
+        )
+    }
+
+    #[tactic(auto, using(crate::proofs::Comparing::comparing), unfolding(crate::specs::Alike::like_at, crate::specs::Alike::members_like, definition::specs::Accept::like_by, definition::specs::Records::shape_of))]
+    fn enumeration_like(&self, m: u32) -> bool
+        ensures { result ≡ like_at self.now.file.now self.now.classes.now self.now.enumerated 10 m self.now.n }
+    {
+        let underlying = self.file.word(SHAPES, m, 4);
+        let other = self.file.word(SHAPES, self.n, 4);
+        self.members_like(m) & same_link(self.classes, underlying, other)
+    }
+
+    fn array_like(&self, m: u32) -> bool
+        ensures { result ≡ array_like self.now.file.now self.now.classes.now m self.now.n }
+    {
+        let file = self.file;
+        if !same_inside(file, self.classes, m, self.n, 1) {
+            return false;
+        }
+        same_runs(file, |a, b, j| same_dimension(file, a, b, j), m, self.n, 2)
+    }
+
+    #[tactic(auto, using(crate::proofs::Comparing::comparing), unfolding(crate::specs::Alike::like_at, definition::specs::Accept::like_by, definition::specs::Records::shape_of))]
+    fn subrange_like(&self, m: u32) -> bool
+        ensures { result ≡ like_at self.now.file.now self.now.classes.now true 13 m self.now.n }
+    {
+        same_inside(self.file, self.classes, m, self.n, 1)
+            & same_bound(self.file, m, self.n, 2)
+            & same_bound(self.file, m, self.n, 3)
+    }
+
+    // Of one kind whose words lead on: to runs, shapes or constants.
+    #[tactic(auto, using(crate::proofs::Comparing::comparing), unfolding(crate::specs::Alike::array_like, crate::specs::Alike::like_at, definition::specs::Accept::like_by, definition::specs::Records::shape_of))]
+    fn inside_like(&self, m: u32) -> bool
+        requires { (10 ≤ self.now.kind) × (self.now.kind < 14) }
+        ensures { result ≡ like_at self.now.file.now self.now.classes.now self.now.enumerated self.now.kind m self.now.n }
+    {
+        let file = self.file;
+        let classes = self.classes;
+        match self.kind {
+            10 => self.enumeration_like(m),
+            11 => same_runs(
+                file,
+                |a, b, j| same_field(file, classes, a, b, j),
+                m,
+                self.n,
+                1,
+            ),
+            12 => self.array_like(m),
+            _ => self.subrange_like(m),
+        }
+    }
+
+    fn same_first(&self, m: u32) -> bool
+        ensures { result ≡ eqb (Layout.word self.now.file.now shapes m 1) (Layout.word self.now.file.now shapes self.now.n 1) }
+    {
+        self.file.word(SHAPES, m, 1) == self.first
+    }
+
+    // Of one kind whose own words say all.
+    #[tactic(auto, using(crate::proofs::Comparing::first_word), unfolding(crate::specs::Alike::words_like))]
+    fn words_like(&self, m: u32) -> bool
+        ensures { result ≡ words_like self.now.file.now self.now.kind m self.now.n }
+    {
+        match self.kind {
+            0 => true,
+            9 => self.same_first(m) & same_word(self.file, SHAPES, m, self.n, 2),
+            _ => self.same_first(m),
+        }
+    }
+
+    // Of one kind.
+    fn like(&self, m: u32) -> bool
+        ensures { result ≡ like_at self.now.file.now self.now.classes.now self.now.enumerated self.now.kind m self.now.n }
+    {
+        match self.kind {
+            16 => same_inside(self.file, self.classes, m, self.n, 1),
+            0..=9 => self.words_like(m),
+            10..=13 => self.inside_like(m),
+            14..=15 => self.words_like(m),
+            _ => false,
+        }
+    }
+
+    // Most shapes are told apart by kind and first word, before anything is handed on.
+    pub fn is_like(&self, m: u32) -> bool
+        ensures { result ≡ shapes_like self.now.file.now (same_in self.now.classes.now) self.now.enumerated m self.now.n }
+    {
+        let other = self.file.word(SHAPES, m, 0);
+        if other != self.kind {
+            return false;
+        }
+        if self.tells {
+            let own = self.file.word(SHAPES, m, 1);
+            if own != self.first {
+                return false;
+            }
+        }
+        self.like(m)
     }
 }
 
@@ -157,54 +205,13 @@ fn like(
 pub fn told(kind: u32) -> bool
     ensures { result ≡ told_by_first kind }
 {
-    match kind {
-        0 => false,
-        1..=9 => true,
-        10..=13 => false,
-        14..=15 => true,
-        _ => false,
-    }
-}
-
-// Most pairs are told apart by kind and first word, before anything is handed on.
-pub fn shapes_like(
-    file: &Source<'_>,
-    classes: &[u32],
-    enumerated: bool,
-    kind: u32,
-    first: u32,
-    tells: bool,
-    m: u32,
-    n: u32,
-) -> bool
-    requires { (kind ≡ Layout.word file.now shapes n 0) × (first ≡ Layout.word file.now shapes n 1) × (tells ≡ told_by_first kind) }
-    ensures { result ≡ shapes_like file.now (same_in classes.now) enumerated m n }
-{
-    let other = file.word(SHAPES, m, 0);
-    if other != kind {
-        return false;
-    }
-    if tells {
-        let own = file.word(SHAPES, m, 1);
-        if own != first {
-            return false;
-        }
-    }
-    like(file, classes, enumerated, kind, first, m, n)
+    matches!(kind, 1..=9 | 14 | 15)
 }
 
 // The lowest shape below n that is like it, or n.
-#[tactic(auto, using(crate::proofs::Comparing::lowests), unfolding(crate::specs::Alike::first_like))]
 pub fn first_like(file: &Source<'_>, classes: &[u32], enumerated: bool, n: u32) -> u32
     ensures { result ≡ first_like file.now classes.now enumerated n }
 {
-    let kind = file.word(SHAPES, n, 0);
-    let first = file.word(SHAPES, n, 1);
-    let tells = told(kind);
-    for m in 0..n {
-        if shapes_like(file, classes, enumerated, kind, first, tells, m, n) {
-            return m;
-        }
-    }
-    n
+    let sought = Sought::new(file, classes, enumerated, n);
+    (0..n).find(|m| sought.is_like(*m)).unwrap_or(n)
 }

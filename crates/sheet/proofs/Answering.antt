@@ -1,15 +1,19 @@
 -- A law for each call and each return of check.rt. Assumes nothing.
-use mathlib.Core.Path.{◌≡◌, ap, sym, ◌∙◌}
+use mathlib.Core.Path.{◌≡◌, refl, ap, sym, ◌∙◌}
 use mathlib.Core.Bool.{Bool, true, false}
 use mathlib.Core.List.{List, ◌++◌}
 use Prim.Native.Nat.{ℕ, ◌+◌, ◌-◌, ◌≤◌, ◌<◌}
 use native.Mathlib.Omega.{arith}
-use lib.Dec.{leb}
+use lib.Dec.{eqb, leb}
 use lib.ListN.{length}
 use borrow.Author.Rules.{rules}
-use borrow.Author.Tests.{not-true, not-false, ne_eqb, eq-eqb, le-leb, lt-leb}
+use borrow.Author.Tests.{not-true, not-false, ne_eqb, eq-eqb, eqb-true, eqb-false, leb-true, le-leb}
 use borrow.Rule.Slice.PartMut.{put_mid}
-use Rattle.std.specs.Prelude.{Some, Result, Ok, Err}
+use denote.Ref.{Bor}
+use Rattle.std.specs.Prelude.{Some, Result, Ok, Err, MatchResult}
+use Rattle.records.specs.declared.file.File.{File}
+use Rattle.acceptance.specs.Admitted.{refusal_in, Admits}
+use Rattle.definition.specs.Base.{choose}
 use Rattle.definition.specs.declared.answers.Refusal.{Refusal}
 use Rattle.definition.specs.declared.answers.Refusal.TheVariants as refusal
 use Rattle.definition.specs.Layout.{count, shapes, types}
@@ -19,19 +23,19 @@ use Rattle.definition.specs.Sheet.{check_answer}
 use Rattle.laws.specs.Accepted.{accepted}
 use Rattle.laws.specs.Depths.{few-shapes}
 use Rattle.shapes.specs.Classes.{classes_of}
-use Rattle.acceptance.proofs.Wanting.{at-least-one, file-passes, file-refuses}
+use Rattle.acceptance.proofs.Wanting.{at-least-one, file-passes}
 use Rattle.build.specs.Built.{index_at, index_in}
 use Rattle.driver.specs.Driver.{Given}
 use Rattle.driver.specs.Tables.{Front}
 use Rattle.driver.proofs.Tabling.{tables-given, index-long, back-front, back_index}
 use Rattle.driver.proofs.Settling.{given-kept}
-use Rattle.resolver.proofs.Answering.{cleared-same}
+use Rattle.lines.proofs.Memories.{cleared-same}
 use Rattle.sheet_lines.specs.declared.find.Lines.{Lines}
 use Rattle.sheet_lines.specs.Found.{found_of}
 use Rattle.sheet_lines.specs.Judged.{types_right, variables_right, judged}
 use Rattle.sheet_lines.specs.Tests.{Comparable, Tests}
 use Rattle.sheet_lines.proofs.Judging.{check-lines, check-passes}
-use Rattle.sheet.specs.Checks.{Checks}
+use Rattle.sheet.specs.Checks.{Checks, room_refused}
 use Rattle.sheet.proofs.Telling.{checks-kept}
 
 -- ---- `test_known`
@@ -129,33 +133,46 @@ module _ (f s : List ℕ) (room : ℕ) where
   said (Ok u) e = said-passes (sym e)
   said (Err r) e = said-refuses r e
 
-  pub refused-file : (r : Refusal) → number_of r ≡ verdict f → check_says (Err r) ≡ pass_answer f s room
+  -- a refusal that comes before the sheet is read
+  refused-before : (r : Refusal) → number_of r ≡ room_refused f room → number_of r ≡ check_refused f s room
   unfolding check_refused
-  refused-file r e = said-refuses r (file-refuses f (λ u. need (leb (room_words f) room) 10 λ v. check_answer f s) r e)
+  refused-before r h = go (eqb (verdict f) 0) (leb (room_words f) room) h
+    where
+      go : (b c : Bool) → number_of r ≡ choose b (λ u. need c 10 λ v. 0) (λ u. verdict f) → number_of r ≡ choose b (λ u. need c 10 λ v. check_answer f s) (λ u. verdict f)
+      go true true h = absurd (omega (arith, h, at-least-one r))
+      go true false h = h
+      go false c h = h
 
-  module _ {g : List ℕ} (q : g ≡ f) (e : verdict f ≡ 0) where
-    accepted-refused : check_refused f s room ≡ need (leb (room_words f) room) 10 (λ v. check_answer f s)
+  pub refused-first : (r : Refusal) → number_of r ≡ room_refused f room → {w : Result (Unit {0}) Refusal} → w ≡ Err r → check_says w ≡ pass_answer f s room
+  refused-first r e q = rw q (said-refuses r (refused-before r e))
+
+  module _ (z : room_refused f room ≡ 0) where
+    before-passes : (verdict f ≡ 0) × (room_words f ≤ room)
+    before-passes = go (eqb (verdict f) 0) (leb (room_words f) room) refl refl z
+      where
+        go : (b c : Bool) → eqb (verdict f) 0 ≡ b → leb (room_words f) room ≡ c → choose b (λ u. need c 10 λ v. 0) (λ u. verdict f) ≡ 0 → (verdict f ≡ 0) × (room_words f ≤ room)
+        go true true p q h = (eqb-true (verdict f) 0 p, leb-true (room_words f) room q)
+        go true false p q h = absurd (omega (arith, h))
+        go false c p q h = absurd (eqb-false (verdict f) 0 p h)
+
+    answer-is : check_refused f s room ≡ check_answer f s
     unfolding check_refused
-    accepted-refused = file-passes f (λ u. need (leb (room_words f) room) 10 λ v. check_answer f s) e
+    answer-is =
+        file-passes f (λ u. need (leb (room_words f) room) 10 λ v. check_answer f s) before-passes.0
+        ∙ ap (λ (b : Bool). need b 10 (λ v. check_answer f s)) (le-leb (room_words f) room before-passes.1)
 
-    pub accepted-by : verdict g ≡ 0
-    accepted-by = rw q e
+    module _ {g : List ℕ} (q : g ≡ f) where
+      pub admitted-ready : (verdict g ≡ 0) × (room_words g ≤ room)
+      admitted-ready = rw q before-passes
 
-    module _ {n : ℕ} (k : n ≡ room_words g) where
-      wanted : n ≡ room_words f
-      wanted = k ∙ ap room_words q
+      pub answer-said : (r : Result (Unit {0}) Refusal) → pass_code (check_says r) ≡ check_answer g s → check_says r ≡ pass_answer f s room
+      answer-said r p = said r (p ∙ ap (λ (l : List ℕ). check_answer l s) q ∙ sym answer-is)
 
-      pub room-enough : n ≤ room → room_words g ≤ room
-      room-enough h = omega arith
+-- ---- `admitted`
+pub admitted-by : (f : List ℕ) (room : ℕ) {answers : Bor File → Result (Unit {0}) Refusal → Type 0} {r : Result File Refusal} → Admits answers f r
+    → ((file : Bor File) (a : Result (Unit {0}) Refusal) → answers file a → refusal_in a ≡ need (leb (room_words file.now.source) room) 10 (λ u. 0))
+    → MatchResult r (λ file. (file.source ≡ f) × (room_refused f room ≡ 0)) (λ refusal. number_of refusal ≡ room_refused f room)
+admitted-by f room x h =
+    x.is (λ u. need (leb (room_words f) room) 10 (λ u. 0)) (λ file a q p. h file a p ∙ ap (λ (l : List ℕ). need (leb (room_words l) room) 10 (λ u. 0)) q)
 
-      pub refused-room : room < n → check_says (Err refusal.Short) ≡ pass_answer f s room
-      unfolding number_of
-      refused-room h =
-          said-refuses refusal.Short (sym (accepted-refused ∙ ap (λ (b : Bool). need b 10 (λ v. check_answer f s)) (lt-leb (room_words f) room (omega (arith, wanted)))))
-
-      pub refused-sheet : n ≤ room → (r : Result (Unit {0}) Refusal) → pass_code (check_says r) ≡ check_answer g s → check_says r ≡ pass_answer f s room
-      refused-sheet h r p =
-          let a : pass_code (check_says r) ≡ check_answer f s = p ∙ ap (λ (l : List ℕ). check_answer l s) q in
-          said r (a ∙ sym (accepted-refused ∙ ap (λ (b : Bool). need b 10 (λ v. check_answer f s)) (le-leb (room_words f) room (omega (arith, wanted)))))
-
-pub ruleset checks = (rules, refused-file, accepted-by, room-enough, refused-room, refused-sheet, cleared-same)
+pub ruleset checks = (rules, refused-first, admitted-ready, answer-said, cleared-same)

@@ -23,7 +23,7 @@ use Rattle.laws.specs.Peeking.{look-to}
 use Rattle.laws.specs.Falling.{declaration-asks}
 use Rattle.laws.specs.Demand.{falls}
 use Rattle.build.specs.Built.{Built}
-use Rattle.build.specs.Built.{Gives, Memory, Builds, Ready}
+use Rattle.build.specs.Built.{index_in, Gives, Memory, Builds, Ready}
 use Rattle.driver.specs.Told.{Tells}
 use Rattle.driver.proofs.Tabling.{front_same}
 use Rattle.driver.proofs.Settling as settling
@@ -48,16 +48,15 @@ module _ {f known s : List ℕ} {room : ℕ} (x : Checks f known s room) where
   found : FoundAt f s x.lines.variables x.lines.completed
   found = found_at f s x.lines x.comparable.found
 
-  memory : Memory f known s (sheet_memo s (count f types))
+  memory : Memory f (index_in known) s (sheet_memo s (count f types))
   memory = record { remembers = comparable-remembers x.comparable; all = omega (arith, sheet-long s (count f types)) }
 
   -- ---- what the functions that are called want
-  pub checks-ready : Ready f known s
+  pub checks-ready : Ready f known (index_in known) s
   checks-ready =
       record {
         accepted = x.given.accepted;
         classed = x.given.classed;
-        tables = omega (arith, x.given.tables);
         memo = sheet_memo s (count f types);
         memory = memory;
       }
@@ -80,7 +79,7 @@ module _ {f known s : List ℕ} {room : ℕ} (x : Checks f known s room) where
         look-to _ (λ d o. OnOk Small o) (OnOk Small) (said_by s) (λ d p. said-small found x.comparable.small d p.0) (body f t)
         (falls f x.accepted (sheet_rank (sheet_at f s x.lines.variables x.lines.completed)) rises t l)
 
-    module _ {old : List ℕ} {b : Built} {new : List ℕ} (y : Builds f known s flatten (body f t) 0 old b new) where
+    module _ {old : List ℕ} {b : Built} {new : List ℕ} (y : Builds f (index_in known) s flatten (body f t) 0 old b new) where
       type-tells : Tells (look (said_by s) (body f t)) b new
       type-tells =
           record {
@@ -102,7 +101,7 @@ module _ {f known s : List ℕ} {room : ℕ} (x : Checks f known s room) where
         look-to (λ d. d < count f types) (λ d o. OnOk Small o) (OnOk Small) (said_by s) (λ d p. said-small found x.comparable.small d p) (declaration f v)
         (declaration-asks f x.accepted v l)
 
-    module _ {old : List ℕ} {b : Built} {new : List ℕ} (y : Builds f known s flatten (declaration f v) 0 old b new) where
+    module _ {old : List ℕ} {b : Built} {new : List ℕ} (y : Builds f (index_in known) s flatten (declaration f v) 0 old b new) where
       variable-tells : Tells (look (said_by s) (declaration f v)) b new
       variable-tells =
           record {

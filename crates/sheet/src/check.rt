@@ -1,21 +1,20 @@
 // The check of a sheet. The room ends as 0.
 #![tactic(auto, using(crate::proofs::Answering::checks))]
 
-ghost use Rattle.std.specs.Prelude.{◌≡◌, ◌+◌, ◌≤◌, length};
+ghost use Rattle.std.specs.Prelude.{◌≡◌, ◌+◌, ◌≤◌, length, MatchResult};
 ghost use Rattle.definition.specs.Accept.{verdict};
-ghost use Rattle.definition.specs.Answers.{room_words, check_says, pass_code, pass_answer, cleared};
+ghost use Rattle.definition.specs.Answers.{number_of, room_words, check_says, pass_code, pass_answer, cleared};
 ghost use Rattle.definition.specs.Layout as Layout;
 ghost use Rattle.definition.specs.Sheet.{check_answer};
 ghost use Rattle.build.specs.Built.{index_at, index_in};
 ghost use Rattle.driver.specs.Driver.{Given};
 ghost use Rattle.driver.specs.Tables.{Front};
 ghost use Rattle.sheet_lines.specs.Tests.{Comparable, Tests};
-ghost use Rattle.sheet.specs.Checks.{Checks};
+ghost use Rattle.sheet.specs.Checks.{Checks, room_refused};
 
 use crate::types::types_right;
 use crate::variables::variables_right;
-use acceptance::accept::accepted;
-use acceptance::work::room_of;
+use acceptance::admit::{admit, enough};
 use build::built::INDEX_AT;
 use definition::answers::Refusal;
 use driver::tables::KNOWN_WORDS;
@@ -77,14 +76,19 @@ fn accepted_answer(file: &File<'_>, sheet: &[u32], room: &mut [u32]) -> Result<(
     sheet_answer(file, &mut known, sheet, room)
 }
 
+// The accepted file, where there is enough room, and no lines are lent; else refusals 1 to 6, or 10.
+#[tactic(auto)]
+fn admitted(words: &[u32], room: usize) -> Result<File<'_>, Refusal>
+    ensures { MatchResult result (λ file. (file.source ≡ words.now) × (room_refused words.now room ≡ 0)) (λ refusal. number_of refusal ≡ room_refused words.now room) }
+{
+    admit(words, |file| enough(file, 0, 0, room))
+}
+
 // The first refusal. The room is left as it comes.
 fn words_answer(words: &[u32], sheet: &[u32], room: &mut [u32]) -> Result<(), Refusal>
     ensures { check_says result ≡ pass_answer words.now sheet.now (length room.old) }
 {
-    let file = accepted(words)?;
-    if room.len() < room_of(&file) {
-        return Err(Refusal::Short);
-    }
+    let file = admitted(words, room.len())?;
     accepted_answer(&file, sheet, room)
 }
 

@@ -9,7 +9,7 @@ use build::built::Unbuilt;
 use complete::completion::completion;
 use definition::layout::NODE_WORDS;
 use records::source::Source;
-use sheet_lines::compare::{completed_same, outcome_same};
+use sheet_lines::compare::line_same;
 
 // Whether words of a sheet are the state, the count and the nodes of what was built: a type's line behind its rank, or a variable's.
 pub fn built_same(
@@ -22,10 +22,11 @@ pub fn built_same(
     requires { Within (length sheet.now) at 2 end × Shown built room.now }
     ensures { SameOutcome sheet.now at end built room.now result }
 {
+    let line = &sheet[at..end];
     match built {
-        Ok(e) => outcome_same(sheet, at, end, 0, (e / NODE_WORDS) as u32, room),
-        Err(Unbuilt::None) => outcome_same(sheet, at, end, 1, 0, room),
-        Err(Unbuilt::TooLarge) => outcome_same(sheet, at, end, 2, 0, room),
+        Ok(e) => line_same(line, &[0, (e / NODE_WORDS) as u32], &room[..e]),
+        Err(Unbuilt::None) => line_same(line, &[1, 0], &[]),
+        Err(Unbuilt::TooLarge) => line_same(line, &[2, 0], &[]),
         Err(Unbuilt::Wanted(_)) => false,
     }
 }
@@ -44,14 +45,12 @@ pub fn completion_same(
     requires { Within (length sheet.now) at 3 end × Shown built room.old }
     ensures { SameCompleted file.now v sheet.now at end built room.old result }
 {
+    let line = &sheet[at..end];
     let Ok(e) = built else {
-        return completed_same(sheet, at, end, 1, 0, 0, &room[..]);
+        return line_same(line, &[1, 0, 0], &[]);
     };
-    match completion(file, v, room, 0, e) {
-        Some(kind) => {
-            let nodes = (e / NODE_WORDS) as u32;
-            completed_same(sheet, at, end, 0, kind, nodes, &room[..])
-        }
-        None => completed_same(sheet, at, end, 1, 0, 0, &room[..]),
-    }
+    let Some(kind) = completion(file, v, room, 0, e) else {
+        return line_same(line, &[1, 0, 0], &[]);
+    };
+    line_same(line, &[0, kind, (e / NODE_WORDS) as u32], &room[..e])
 }

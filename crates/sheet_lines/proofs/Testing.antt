@@ -1,5 +1,5 @@
 -- A law for each call and each return of tests.rt, and the memo that the index and the sheet then stand for. Assumes nothing.
-use mathlib.Core.Path.{◌≡◌, sym, ◌∙◌}
+use mathlib.Core.Path.{◌≡◌, refl, ap, sym, ◌∙◌}
 use mathlib.Core.Bool.{Bool, true, false}
 use mathlib.Core.List.{List}
 use Prim.Native.Nat.{ℕ, ◌≤◌, ◌<◌}
@@ -19,7 +19,10 @@ use Rattle.sheet_lines.specs.declared.ends.Form.TheVariants.{Types}
 use Rattle.sheet_lines.specs.declared.find.Lines.{Lines}
 use Rattle.definition.specs.declared.answers.Refusal.TheVariants as refusal
 use Rattle.definition.specs.Answers.{number_of}
+use Rattle.std.specs.Option.{ok_or}
 use Rattle.std.specs.Prelude.{Option, Some, None, Ok, Err}
+use Rattle.std.specs.Prelude as std
+use Rattle.definition.specs.declared.answers.Refusal.{Refusal}
 use Rattle.sheet_lines.specs.Found.{found_of}
 use Rattle.sheet_lines.specs.Index.{place_word, rank_of, IndexedBy}
 use Rattle.sheet_lines.specs.Judged.{judged}
@@ -53,13 +56,27 @@ unfolding judged
 small-judged f s v c h = rw h
 
 module _ (f s : List ℕ) (e : verdict f ≡ 0) {w : Option Lines} (o : w ≡ found_of f s) where
-  pub tests-unreadable : w ≡ None → {new : List ℕ} → Tests f s (Err refusal.Sections) new
-  unfolding number_of
-  tests-unreadable i = record { says = check-unreadable f s e (sym o ∙ i) }
+  found-not : {a : std.Result Lines Refusal} → a ≡ ok_or w refusal.Sections → {y : Refusal} → a ≡ Err y → (w ≡ None) × (y ≡ refusal.Sections)
+  found-not {a} k {y} i = go w k
+    where
+      go : (w : Option Lines) → a ≡ ok_or w refusal.Sections → (w ≡ None) × (y ≡ refusal.Sections)
+      go (Some m) e = let z : ◌≡◌ {A = ℕ} 0 1 = cc in absurd (omega arith)
+      go None e = let z : y ≡ refusal.Sections = cc in (refl, z)
 
-  module _ {x : Lines} (i : w ≡ Some x) where
+  found-so : {a : std.Result Lines Refusal} → a ≡ ok_or w refusal.Sections → {x : Lines} → a ≡ Ok x → w ≡ Some x
+  found-so {a} k {x} i = go w k
+    where
+      go : (w : Option Lines) → a ≡ ok_or w refusal.Sections → w ≡ Some x
+      go (Some m) e = let z : m ≡ x = cc in ap Some z
+      go None e = let z : ◌≡◌ {A = ℕ} 0 1 = cc in absurd (omega arith)
+
+  pub tests-unreadable : {a : std.Result Lines Refusal} → a ≡ ok_or w refusal.Sections → {y : Refusal} → a ≡ Err y → {r : std.Result Lines Refusal} → r ≡ Err y → {new : List ℕ} → Tests f s r new
+  unfolding number_of
+  tests-unreadable k i q = let z = found-not k i in rw (q, z.1) (record { says = check-unreadable f s e (sym o ∙ z.0) })
+
+  module _ {a : std.Result Lines Refusal} (k : a ≡ ok_or w refusal.Sections) {x : Lines} (i : a ≡ Ok x) where
     there : found_of f s ≡ Some x
-    there = sym o ∙ i
+    there = sym o ∙ found-so k i
 
     pub found-lined : {n : ℕ} → n ≡ count f types → {k : ℕ} → count f types ≤ k → Lined f s n k
     found-lined p h = record { all = p; there = rw p (record { there = types-end (found_at f s x there) }); room = omega arith }
@@ -83,9 +100,9 @@ module _ (f s : List ℕ) (e : verdict f ≡ 0) {w : Option Lines} (o : w ≡ fo
         unfolding number_of
         tests-long h = record { says = check-long f s e there rises h }
 
-        module _ (h : length s ≤ 113280000) {n : ℕ} (k : n ≡ count f types) {d : Bool} (p : d ≡ every (small_at s) n) where
+        module _ (h : length s ≤ 113280000) {n : ℕ} (m : n ≡ count f types) {d : Bool} (p : d ≡ every (small_at s) n) where
           small_is : d ≡ every (small_at s) (count f types)
-          small_is = rw (← k) p
+          small_is = rw (← m) p
 
           pub tests_large : d ≡ false → {new : List ℕ} → Tests f s (Err refusal.Lines) new
           unfolding number_of
@@ -94,7 +111,7 @@ module _ (f s : List ℕ) (e : verdict f ≡ 0) {w : Option Lines} (o : w ≡ fo
           pub tests-comparable : d ≡ true → {answers : ℕ → ℕ → Type 0} {index new : List ℕ} → IndexedBy answers s n index new
               → ((at w : ℕ) → answers at w → w ≡ place_word at) → Tests f s (Ok x) new
           tests-comparable z {answers = answers} {index = index} {new = new} g a =
-              let i : IndexedBy answers s (count f types) index new = rw k at g in
+              let i : IndexedBy answers s (count f types) index new = rw m at g in
               record {
                 says = record { found = there; rises = rises; small = sym small_is ∙ z; short = omega arith; lent = index; filled = i.is place_word a };
               }

@@ -125,11 +125,8 @@ pub fn lines_end(sheet: &[u32], form: Form, many: u32, at: usize) -> Option<usiz
 pub fn section_end(sheet: &[u32], form: Form, many: u32, at: usize) -> Option<usize>
     ensures { result ≡ section_end form sheet.now many at }
 {
-    if at < sheet.len() {
-        let count = sheet[at];
-        if count == many {
-            return lines_end(sheet, form, many, at + 1);
-        }
+    if *sheet.get(at)? != many {
+        return None;
     }
-    None
+    lines_end(sheet, form, many, at + 1)
 }

@@ -35,9 +35,7 @@ pub fn test_sheet(file: &File<'_>, sheet: &[u32], index: &mut [u32]) -> Result<L
     requires { (verdict file.now.source ≡ 0) × (Layout.count file.now.source Layout.types ≤ length index.old) }
     ensures { Tests file.now.source sheet.now result index.new }
 {
-    let Some(lines) = find_lines(&file.source, sheet) else {
-        return Err(Refusal::Sections);
-    };
+    let lines = find_lines(&file.source, sheet).ok_or(Refusal::Sections)?;
     let types = file.source.count(TYPES);
     if !lines_rise(file, sheet, types, index) {
         return Err(Refusal::Ranks);

@@ -1,9 +1,9 @@
 -- A line's words, and the lines of outcomes. Assumes nothing.
 use mathlib.Core.Path.{◌≡◌, refl, ap, sym, subst, ◌∙◌}
 use mathlib.Core.List.{List, [], ◌∷◌}
-use Prim.Native.Nat.{ℕ, ◌+◌, ◌*◌, ◌/◌, ◌≤◌}
+use Prim.Native.Nat.{ℕ, ◌+◌, ◌-◌, ◌*◌, ◌/◌, ◌≤◌}
 use native.Mathlib.Omega.{arith}
-use lib.ListN.{length}
+use lib.ListN.{length, take, drop}
 use lib.Seq.{slice, length-slice}
 use borrow.Author.Rules.{rules}
 use Rattle.std.specs.Prelude.{Ok, Err}
@@ -15,6 +15,7 @@ use Rattle.laws.specs.Asks.{OnOk}
 use Rattle.laws.specs.Values.{Small}
 use Rattle.laws.specs.Whole.{flatten-length}
 use Rattle.tree.specs.Words.{Stand}
+use Rattle.tree.proofs.Stands.{take-drop}
 use Rattle.lines.specs.declared.look.Tree.{Tree}
 use Rattle.lines.specs.declared.look.Absent.TheVariants as absent
 use Rattle.lines.specs.Look.{Remembered}
@@ -26,7 +27,6 @@ use Rattle.driver.specs.Told.{Tells}
 use Rattle.sheet_parts.specs.declared.line.Line.{Line}
 use Rattle.laws.specs.Puts.{Puts, puts-long, puts_then}
 use Rattle.sheet_parts.specs.Line.{value_in, line_in, Within, LineFits, ValueLies, LineLies, line_of, empty_line, remembered_line, built_line}
-use Rattle.std.specs.Prelude.{Ok, Err}
 
 -- ---- `remembered_line` and `built_line`
 module _ (rank : ℕ) {w : Remembered} {l : Line} where
@@ -56,10 +56,26 @@ pub built-ends : {w : Built} {e : ℕ} → w ≡ Ok e → line_of 0 0 (e / 6) 0 
 built-ends e = ap built_line (sym e)
 
 -- ---- `put_value` and `put_line`
+abbrev nodes_of : Line → List ℕ → List ℕ
+nodes_of line from = take (line.at + line.nodes * 6 - line.at) (drop line.at from)
+
+nodes-are : (line : Line) (from : List ℕ) → nodes_of line from ≡ slice line.at (line.at + line.nodes * 6) from
+nodes-are line from =
+    let n : line.at + (line.at + line.nodes * 6 - line.at) ≡ line.at + line.nodes * 6 = omega arith in
+    take-drop line.at (line.at + line.nodes * 6 - line.at) from ∙ ap (λ (k : ℕ). slice line.at k from) n
+
 pub value-put : (line : Line) (from : List ℕ) {old one two new : List ℕ} {at b c r : ℕ} → Puts (line.state ∷ []) old at b one → Puts (line.nodes ∷ []) one b c two
-    → Puts (slice line.at (line.at + line.nodes * 6) from) two c r new → Puts (value_in line from) old at r new
+    → Puts (nodes_of line from) two c r new → Puts (value_in line from) old at r new
 unfolding value_in
-value-put line from p q s = puts_then (puts_then p q) s
+value-put line from {old} {one} {two} {new} {at} {b} {c} {r} p q s = puts_then (puts_then p q) (subst (λ (l : List ℕ). Puts l two c r new) (nodes-are line from) s)
+
+module _ {line : Line} (from : List ℕ) {at out : ℕ} (h : LineFits line (length from) at out) where
+  pub nodes-inside : line.at + line.nodes * 6 ≤ length from
+  nodes-inside = h.within.source
+
+  pub nodes-room : {old one two : List ℕ} {b c : ℕ} → out ≡ length old → Puts (line.state ∷ []) old at b one → Puts (line.nodes ∷ []) one b c two → c + length (nodes_of line from) ≤ length two
+  nodes-room e p q =
+      omega (arith, ap length (nodes-are line from), length-slice line.at (line.at + line.nodes * 6) from h.within.source, h.target, e, p.ends, q.ends, puts-long p, puts-long q)
 
 pub first_fits : {line : Line} {from at : ℕ} {old : List ℕ} → LineFits line from (at + 1) (length old) → {w : ℕ} {mid : List ℕ} {b : ℕ} → Puts (w ∷ []) old at b mid → LineFits line from b (length mid)
 first_fits {line} {from} {at} {old} h {w} {mid} {b} p = let k : b ≡ at + 1 = p.ends in rw (k, puts-long p) h
@@ -68,7 +84,7 @@ pub line-put : (line : Line) (from : List ℕ) {old mid new : List ℕ} {at b r 
 unfolding line_in
 line-put line from p q = puts_then p q
 
-pub ruleset lining = (rules, line-unknown, line-none, line-large, line-tree, built-ends, built-none, built-large, built-wanted, value-put, first_fits, line-put)
+pub ruleset lining = (rules, line-unknown, line-none, line-large, line-tree, built-ends, built-none, built-large, built-wanted, value-put, nodes-inside, nodes-room, first_fits, line-put)
 
 -- ---- how long a line is, and what is put
 value-words : (line : Line) (from : List ℕ) → Within line (length from) → length (value_in line from) ≡ 2 + line.nodes * 6

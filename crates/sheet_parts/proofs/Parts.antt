@@ -43,7 +43,7 @@ module _ {f tables store : List ℕ} (k : Resolved f tables store) where
       let w = remembered_of (index_in tables) store t in
       rw e (value_line (looks-lies (rank t) w store (type_outcome f t) (k.typed t l)) (rank t) (first-is (rank t) w))
 
-  pub variable-lies : {v : ℕ} → v < count f variables → {old new : List ℕ} {made : Built} → Builds f tables store flatten (declaration f v) 0 old made new → {line : Line} → line ≡ built_line made
+  pub variable-lies : {v : ℕ} → v < count f variables → {old new : List ℕ} {made : Built} → Builds f (index_in tables) store flatten (declaration f v) 0 old made new → {line : Line} → line ≡ built_line made
       → ValueLies (variable_line f v) line new
   unfolding variable_line
   variable-lies {v} l {old} {new} {made} b e = rw e (tells-lies made new (variable_outcome f v) (variable-small f v) (k.told v l old new made b))

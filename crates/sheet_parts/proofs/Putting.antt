@@ -1,21 +1,13 @@
 -- Words that are put one behind the other. Assumes nothing.
 use mathlib.Core.Path.{◌≡◌, refl, ap, sym, ◌∙◌}
-use mathlib.Core.Bool.{Bool, true, false, ◌&&◌}
 use mathlib.Core.List.{List, ◌++◌, append_assoc}
 use Prim.Native.Nat.{ℕ, ◌+◌, ◌-◌, ◌≤◌}
 use native.Mathlib.Omega.{arith}
-use lib.Dec.{leb}
 use lib.ListN.{length, take, drop}
 use lib.Seq.{slice, take_at, take-take, take-append-add, drop-append-le, length-slice, length-take-le}
 use borrow.Author.Rules.{rules}
-use borrow.Author.Tests.{le-leb}
-use Rattle.tree.specs.Words.{Copyable, WroteCopy}
-use Rattle.tree.proofs.Standing.{wrote-so-is}
 use Rattle.tree.proofs.Stands.{take-drop}
-use Rattle.lines.proofs.Copying.{wrote-not-is}
 use Rattle.laws.specs.Puts.{Puts, front_long, puts-rest, puts-long, put_one}
-use Rattle.std.specs.Prelude.{None, Option, Some}
-use Rattle.std.specs.Option.{unwrap_or}
 
 module _ {ws old : List ℕ} {a b : ℕ} {mid : List ℕ} (p : Puts ws old a b mid) where
   -- what lies before them
@@ -72,32 +64,4 @@ module _ {ws old : List ℕ} {b c : ℕ} {mid : List ℕ} (p : Puts ws old b c m
         };
       }
 
--- nodes
-abbrev copy_test : List ℕ → ℕ → ℕ → List ℕ → ℕ → Bool
-copy_test from a n old at = leb (a + n) (length from) && leb (at + n) (length old)
-
-module _ (from old : List ℕ) (a at n : ℕ) (y : Copyable (length from) a (length old) at n) {x : Option ℕ} {new : List ℕ} (w : WroteCopy from a n old at x new) where
-  copy_test_lem : copy_test from a n old at ≡ true
-  copy_test_lem = rw (le-leb (a + n) (length from) y.source, le-leb (at + n) (length old) y.target)
-
-  nodes_end : {e : ℕ} → x ≡ Some e → Puts (slice a (a + n) from) old at e new
-  nodes_end {e} i =
-      let t = wrote-so-is (copy_test from a n old at) w i in
-      let k : length (slice a (a + n) from) ≡ n = length-slice a (a + n) from y.source ∙ omega arith in
-      record {
-        ends = omega (arith, t.1, k);
-        fits = omega (arith, t.1, y.target);
-        is = t.2 ∙ ap (λ (l : List ℕ). take at old ++ l ++ drop (at + n) old) (take-drop a n from) ∙ ap (λ (d : ℕ). take at old ++ slice a (a + n) from ++ drop d old) (sym t.1);
-      }
-
-  nodes-not : x ≡ None → (r : ℕ) → Puts (slice a (a + n) from) old at r new
-  nodes-not i r = let t : false ≡ true = sym (wrote-not-is (copy_test from a n old at) w i).0 ∙ copy_test_lem in let z : ◌≡◌ {A = ℕ} 0 1 = cc in absurd (omega arith)
-
-  nodes-or : (y : Option ℕ) → x ≡ y → {r : ℕ} → r ≡ unwrap_or y at → Puts (slice a (a + n) from) old at r new
-  nodes-or (Some e) i {r} h = rw h (nodes_end i)
-  nodes-or None i {r} h = nodes-not i r
-
-  pub nodes-put : {r : ℕ} → r ≡ unwrap_or x at → Puts (slice a (a + n) from) old at r new
-  nodes-put h = nodes-or x refl h
-
-pub ruleset puts = (rules, put_one, nodes-put)
+pub ruleset puts = (rules, put_one)

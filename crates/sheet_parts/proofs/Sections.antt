@@ -98,7 +98,7 @@ types-all {f} {t} {n} x e g h = let k : t ≡ count f types = omega arith in sub
 
 module _ {f tables store : List ℕ} (k : Resolved f tables store) where
   pub tables-there : 1024 ≤ length tables
-  tables-there = k.ready.tables
+  tables-there = k.wide
 
   module _ {many t : ℕ} (c : many ≡ count f types) (h : t < many) where
     pub type-few : {line : Line} → line ≡ remembered_line 0 (remembered_of (index_in tables) store t) → line.nodes ≤ 2048

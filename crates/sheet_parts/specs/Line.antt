@@ -1,10 +1,9 @@
 -- The words of a line, and what a line is of an outcome.
 use Rattle.std.specs.Prelude.{◌≡◌, List, ◌∷◌, ℕ, ◌+◌, ◌*◌, ◌/◌, ◌≤◌, length, Ok, Err}
 use Rattle.std.proofs.Math.Seq.{slice}
-use Rattle.lines.specs.declared.look.Absent.TheVariants as absent
-use Rattle.lines.specs.Look.{Remembered}
+use Rattle.lines.specs.Look.{Remembered, state_word}
+use Rattle.build.specs.Absent.{absent_of}
 use Rattle.build.specs.Built.{Built}
-use Rattle.build.specs.declared.built.Unbuilt.TheVariants as unbuilt
 use Rattle.sheet_parts.specs.declared.line.Line.{Line}
 use Rattle.std.specs.Prelude.{Ok, Err}
 
@@ -42,12 +41,8 @@ empty_line first state = line_of first state 0 0
 
 abbrev pub remembered_line : ℕ → Remembered → Line
 remembered_line rank (Ok tree) = line_of rank 0 tree.nodes tree.at
-remembered_line rank (Err absent.Unknown) = empty_line rank 1
-remembered_line rank (Err absent.None) = empty_line rank 1
-remembered_line rank (Err absent.TooLarge) = empty_line rank 2
+remembered_line rank (Err absent) = empty_line rank (state_word absent)
 
 abbrev pub built_line : Built → Line
 built_line (Ok e) = line_of 0 0 (e / 6) 0
-built_line (Err unbuilt.None) = empty_line 0 1
-built_line (Err unbuilt.TooLarge) = empty_line 0 2
-built_line (Err (unbuilt.Wanted d)) = empty_line 0 1
+built_line (Err unbuilt) = empty_line 0 (state_word (absent_of unbuilt))

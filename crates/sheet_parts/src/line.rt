@@ -5,7 +5,7 @@ ghost use Rattle.std.specs.Prelude.{◌≡◌, ◌+◌, ◌*◌, ◌≤◌, leng
 ghost use Rattle.sheet_parts.specs.Line.{LineFits, value_in, line_in, empty_line, remembered_line, built_line};
 ghost use Rattle.laws.specs.Puts.{Puts};
 
-use crate::put::{put_nodes, put_word};
+use crate::put::{put_word, put_words};
 use build::built::Unbuilt;
 use definition::layout::NODE_WORDS;
 use lines::look::{Absent, Tree};
@@ -42,9 +42,7 @@ pub fn remembered_line(rank: u32, remembered: Result<Tree, Absent>) -> Line
             nodes: tree.nodes,
             at: tree.at,
         },
-        Err(Absent::Unknown) => empty_line(rank, 1),
-        Err(Absent::None) => empty_line(rank, 1),
-        Err(Absent::TooLarge) => empty_line(rank, 2),
+        Err(absent) => empty_line(rank, absent.state()),
     }
 }
 
@@ -59,9 +57,7 @@ pub fn built_line(built: Result<usize, Unbuilt>) -> Line
             nodes: e / NODE_WORDS,
             at: 0,
         },
-        Err(Unbuilt::None) => empty_line(0, 1),
-        Err(Unbuilt::TooLarge) => empty_line(0, 2),
-        Err(Unbuilt::Wanted(_)) => empty_line(0, 1),
+        Err(unbuilt) => empty_line(0, Absent::from(unbuilt).state()),
     }
 }
 
@@ -81,9 +77,8 @@ pub fn put_value(out: &mut [u32], at: usize, line: Line, from: &[u32]) -> usize
 {
     let counted = put_word(out, at, line.state);
     let behind = put_word(out, counted, line.nodes as u32);
-    let place = line.at;
-    let nodes = line.nodes;
-    put_nodes(out, behind, from, place, nodes)
+    let end = line.at + line.nodes * NODE_WORDS;
+    put_words(out, behind, &from[line.at..end])
 }
 
 pub fn put_line(out: &mut [u32], at: usize, line: Line, from: &[u32]) -> usize

@@ -12,6 +12,7 @@ ghost use Rattle.sheet_parts.specs.Resolved.{Resolved};
 
 use crate::line::{Line, built_line, empty_line, remembered_line};
 use build::built::INDEX_AT;
+use build::known::Known;
 use complete::completion::completion;
 use definition::layout::NODE_WORDS;
 use driver::work::variable;
@@ -37,7 +38,8 @@ pub fn variable_line(
     requires { Resolved file.now.source known.now store.now × (v < Layout.count file.now.source Layout.variables) × (room_words file.now.source ≤ length room.old) }
     ensures { ValueLies (variable_line file.now.source v) result room.new }
 {
-    built_line(variable(file, known, store, v, room))
+    let read = Known::new(file, known, &known[INDEX_AT..], store);
+    built_line(variable(&read, v, room))
 }
 
 // The line of a variable's completed initializer: the nodes of its own line are completed where they lie.

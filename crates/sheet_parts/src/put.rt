@@ -1,12 +1,8 @@
-// Words and nodes put into out, each behind those before.
+// Words put into out, each behind those before.
 #![tactic(auto, using(crate::proofs::Putting::puts))]
 
-ghost use Rattle.std.specs.Prelude.{[], ◌∷◌, ◌+◌, ◌*◌, ◌<◌, length};
-ghost use Rattle.std.proofs.Math.Seq.{slice};
-ghost use Rattle.tree.specs.Words.{Copyable};
+ghost use Rattle.std.specs.Prelude.{[], ◌∷◌, ◌+◌, ◌≤◌, ◌<◌, length};
 ghost use Rattle.laws.specs.Puts.{Puts};
-
-use lines::copy::copy_nodes;
 
 pub fn put_word(out: &mut [u32], at: usize, word: u32) -> usize
     requires { at < length out.old }
@@ -16,10 +12,12 @@ pub fn put_word(out: &mut [u32], at: usize, word: u32) -> usize
     at + 1
 }
 
-// So many nodes that stand at a place of another slice.
-pub fn put_nodes(out: &mut [u32], at: usize, from: &[u32], a: usize, nodes: usize) -> usize
-    requires { Copyable (length from.now) a (length out.old) at (nodes * 6) }
-    ensures { Puts (slice a (a + nodes * 6) from.now) out.old at result out.new }
+// All words of another slice.
+pub fn put_words(out: &mut [u32], at: usize, words: &[u32]) -> usize
+    requires { at + length words.now ≤ length out.old }
+    ensures { Puts words.now out.old at result out.new }
 {
-    copy_nodes(from, a, nodes, out, at).unwrap_or(at)
+    let end = at + words.len();
+    out[at..end].copy_from_slice(words);
+    end
 }

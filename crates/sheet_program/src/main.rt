@@ -2,14 +2,12 @@
 #![tactic(auto)]
 
 use sheet_text::file::SHEET_WORDS;
-use sheet_text::input::{MOST_TEXT, sheet_text};
+use sheet_text::input::{MOST_TEXT, ROOM_WORDS, sheet_text};
 use std::io;
 use vector_io::read_full;
 
 // One byte more than a file may have: more need not be read.
 const INPUT_BYTES: usize = 32769;
-// 69 levels of 24,576 words: with the other arrays and what calls take that is within a stack of 8 MiB.
-const ROOM_WORDS: usize = 1695744;
 
 fn print(
     rt: &(impl Input + Print),

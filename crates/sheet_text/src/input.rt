@@ -16,6 +16,8 @@ pub const MOST_BYTES: usize = 32768;
 pub const FILE_WORDS: usize = 8192;
 // Ten digits at most for each word of a sheet, and the byte behind it.
 pub const MOST_TEXT: usize = 90112;
+// What the sheet program lends: 69 levels of 24,576 words, which with the other arrays and what calls take is within a stack of 8 MiB.
+pub const ROOM_WORDS: usize = 1695744;
 
 fn clear_both(lines: &mut [u32], room: &mut [u32])
     ensures lines { lines.new ≡ cleared lines.old }

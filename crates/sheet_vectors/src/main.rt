@@ -6,7 +6,7 @@
 use definition::answers::Refusal;
 use sheet::check::check_sheet;
 use std::io;
-use vector_io::answers::{judged, replay};
+use vector_io::answers::{LENT, MOST_ROOM, is_lent, judged, print_replayed, replay};
 use vector_io::{next_word, read_counted};
 use writer::sheet::write_sheet;
 
@@ -14,14 +14,11 @@ use writer::sheet::write_sheet;
 const MOST_WORDS: usize = 4096;
 // More files than are stored.
 const MOST_FILES: u32 = 1000;
-// Room of 30 levels: more than any stored file wants.
-const MOST_ROOM: usize = 737280;
-// What the words of the answer's slice are before a call.
-const LENT: u32 = 0xA5A5_A5A5;
 
 // The slice holds the sheet, and is what it was behind it.
 fn holds(out: &[u32], sheet: &[u32]) -> bool {
-    out.starts_with(sheet) & out.iter().skip(sheet.len()).all(|word| *word == LENT)
+    out.strip_prefix(sheet)
+        .is_some_and(|rest| is_lent(rest, LENT))
 }
 
 // Written with so many words, or refused with a number, which is not 0.
@@ -141,11 +138,11 @@ fn replay_all(
     lines: &mut [u32],
     room: &mut [u32],
 ) -> io::Result<()> {
-    let right = replay(
+    print_replayed(
+        rt,
         MOST_FILES,
         |k| replay_file(rt, k, words, sheet, out, lines, room),
-    )?;
-    rt.println(right)
+    )
 }
 
 fn main(rt: HostRuntime) -> io::Result<()> {

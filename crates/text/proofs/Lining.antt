@@ -10,7 +10,7 @@ use Rattle.std.proofs.lemmas.List.{get_or-take}
 use borrow.Author.Rules.{rules}
 use Rattle.definition.specs.Program.{bytes_of, decimal, spaced, line_text, lines_text}
 use Rattle.laws.specs.Puts.{Puts, puts_then}
-use Rattle.text.specs.declared.line.Places.{Places}
+use Rattle.text.specs.declared.part.Places.{Places}
 use Rattle.text.specs.Forms.{line_form}
 use Rattle.text.specs.Printed.{Printable, Printed}
 use Rattle.text.proofs.Putting.{Putting, putting-first, putting-more, putting-last}
@@ -59,15 +59,15 @@ pub record Lining (many : ℕ) (words old : List ℕ) (at : Places) (k last : �
   pub inside : last < length words
   pub passes : last + 1 ≡ at.word + many
 
-module _ {many : ℕ} {words : List ℕ} (old : List ℕ) {at : Places} (h : 0 < many) (x : Printable (line_form many) words (length old) at) where
-  pub lining-inside : at.word + many ≤ length words
+module _ (before : ℕ) {words : List ℕ} (old : List ℕ) {at : Places} (x : Printable (line_form (before + 1)) words (length old) at) where
+  pub lining-inside : at.word + (before + 1) ≤ length words
   lining-inside = x.inside
 
-  pub lining-first : Lining many words old at 0 (at.word + many - 1) old at.byte
+  pub lining-first : Lining (before + 1) words old at 0 (at.word + before) old at.byte
   lining-first =
-      let line = take many (drop at.word words) in
+      let line = take (before + 1) (drop at.word words) in
       let z : at.word + 0 ≡ at.word = omega arith in
-      let k : at.word + many - 1 + 1 - at.word ≡ many = omega arith in
+      let k : at.word + before + 1 - at.word ≡ before + 1 = omega arith in
       record {
         putting = rw (z, k) (putting-first (line_text line) old at.byte (omega (arith, x.room, ap length (one_line line))));
         some = omega arith;

@@ -8,7 +8,7 @@ use mir.Val.{Fits}
 use lib.ListN.{length, get_or, take, drop, replicate, length-append}
 use lib.Seq.{drop-drop}
 use Rattle.definition.specs.Program.{decimal, line_text, lines_text}
-use Rattle.text.specs.declared.line.Places.{Places}
+use Rattle.text.specs.declared.part.Places.{Places}
 use Rattle.text.specs.Forms.{Form, lines_in, long_in, series, line_form, nodes_form, record_form, records_form, section_form, sheet_form}
 use Rattle.text.specs.Printed.{SheetRoom}
 use Rattle.text.proofs.Numbers.{word-digits}

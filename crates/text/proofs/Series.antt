@@ -10,7 +10,7 @@ use lib.Seq.{drop-drop, get_or-drop}
 use borrow.Author.Rules.{rules}
 use Rattle.definition.specs.Program.{node_lines, record_lines, line_text, lines_text}
 use Rattle.laws.specs.Puts.{Puts, puts_none, puts-long, puts_then}
-use Rattle.text.specs.declared.line.Places.{Places}
+use Rattle.text.specs.declared.part.Places.{Places}
 use Rattle.text.specs.Forms.{Form, lines_in, long_in, series, line_form, nodes_form, record_form, records_form, section_form}
 use Rattle.text.specs.Printed.{Printable, Printed}
 
@@ -108,14 +108,18 @@ module _ {whole : Form} {words old : List ℕ} {at : Places} {p : Form} {k : ℕ
     pub repeat-done : k ≤ i → Printed whole words old at here text
     repeat-done h = let e : k - i ≡ 0 = omega arith in printing-done (subst (λ (n : ℕ). Printing whole words old at (replicate n p) text here) e x.printing)
 
+pub times-first : (p : Form) (k : ℕ) {words : List ℕ} (old : List ℕ) {at : Places} → Printable (series (replicate k p)) words (length old) at
+    → Repeating (series (replicate k p)) words old at p k 0 old at
+times-first p k old x = repeating (printing-first old (replicate k p) (record { lines = refl; long = refl }) x)
+
 -- ---- nodes
+abbrev pub nodes_in : ℕ → Form
+nodes_in k = series (replicate k (line_form 6))
+
 pub nodes-same : (k : ℕ) (words : List ℕ) → Same (nodes_form k) (series (replicate k (line_form 6))) words
 unfolding node_lines lines_in long_in
 nodes-same zero words = record { lines = refl; long = refl }
 nodes-same (suc k) words = let e = nodes-same k (drop 6 words) in record { lines = rw e.lines; long = omega (arith, e.long) }
-
-pub nodes-first : {k : ℕ} {words : List ℕ} (old : List ℕ) {at : Places} → Printable (nodes_form k) words (length old) at → Repeating (nodes_form k) words old at (line_form 6) k 0 old at
-nodes-first {k} {words} old {at} x = repeating (printing-first old (replicate k (line_form 6)) (nodes-same k (drop at.word words)) x)
 
 -- ---- records, and a section of them
 pub record_same : (place : ℕ) (words : List ℕ) (i : ℕ) → Same (record_form place) (series (line_form (place + 1) ∷ nodes_form (get_or words (i + place) 0) ∷ [])) (drop i words)
@@ -143,11 +147,11 @@ module _ (place : ℕ) {words : List ℕ} (old : List ℕ) {at : Places} where
     head-able = printing-able head-printing
 
     module _ {b : Places} {mid : List ℕ} (y : Printed (line_form (place + 1)) words old at b mid) where
-      pub nodes-able : Printable (nodes_form (get_or words (at.word + place) 0)) words (length mid) b
-      nodes-able = printing-able (printing-more head-printing y)
+      pub nodes-able : Printable (nodes_in (get_or words (at.word + place) 0)) words (length mid) b
+      nodes-able = same-able (nodes-same (get_or words (at.word + place) 0) (drop b.word words)) (printing-able (printing-more head-printing y))
 
-      pub record-done : {r : Places} {new : List ℕ} → Printed (nodes_form (get_or words (at.word + place) 0)) words mid b r new → Printed (record_form place) words old at r new
-      record-done z = printing-done (printing-more (printing-more head-printing y) z)
+      pub record-done : {r : Places} {new : List ℕ} → Printed (nodes_in (get_or words (at.word + place) 0)) words mid b r new → Printed (record_form place) words old at r new
+      record-done z = printing-done (printing-more (printing-more head-printing y) (same-printed (nodes-same (get_or words (at.word + place) 0) (drop b.word words)) z))
 
   module _ (x : Printable (section_form place) words (length old) at) where
     count-printing : Printing (section_form place) words old at (line_form 1 ∷ records_form place (get_or words at.word 0) ∷ []) old at
@@ -166,10 +170,7 @@ module _ (place : ℕ) {words : List ℕ} (old : List ℕ) {at : Places} where
       pub section-done : {r : Places} {new : List ℕ} → Printed (records_form place (get_or words at.word 0)) words mid b r new → Printed (section_form place) words old at r new
       section-done z = printing-done (printing-more (printing-more count-printing y) z)
 
-pub records-first : (place k : ℕ) {words : List ℕ} (old : List ℕ) {at : Places} → Printable (records_form place k) words (length old) at → Repeating (records_form place k) words old at (record_form place) k 0 old at
-records-first place k old x = repeating (printing-first old (replicate k (record_form place)) (record { lines = refl; long = refl }) x)
-
-pub ruleset repeats = (rules, nodes-first, records-first, repeat-able, repeat-more, repeat-done)
+pub ruleset repeats = (rules, times-first, repeat-able, repeat-more, repeat-done)
 
 pub ruleset records = (rules, head-inside, head-able, nodes-able, record-done)
 

@@ -2,7 +2,7 @@
 use Rattle.std.specs.Prelude.{◌≡◌, List, ℕ, ◌+◌, ◌*◌, ◌≤◌, length, drop}
 use Rattle.definition.specs.Program.{lines_text}
 use Rattle.laws.specs.Puts.{Puts}
-use Rattle.text.specs.declared.line.Places.{Places}
+use Rattle.text.specs.declared.part.Places.{Places}
 use Rattle.text.specs.Forms.{Form, sheet_form}
 
 -- its words are there, and a text of so many bytes has room for its lines

@@ -3,6 +3,7 @@
 
 pub mod line;
 pub mod number;
+pub mod part;
 pub mod put;
 pub mod record;
 pub mod refusal;

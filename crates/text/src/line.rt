@@ -5,17 +5,10 @@ ghost use Rattle.std.specs.Prelude.{[], ◌∷◌, ◌++◌, ◌+◌, ◌<◌, l
 ghost use Rattle.definition.specs.Program.{decimal};
 ghost use Rattle.laws.specs.Puts.{Puts};
 ghost use Rattle.text.specs.Forms.{line_form};
-ghost use Rattle.text.specs.Printed.{Printable, Printed};
 
 use crate::number::put_number;
+use crate::part::{Part, Places};
 use crate::put::put_byte;
-
-// Where the next word is read, and where its text is put.
-#[derive(Clone, Copy)]
-pub struct Places {
-    pub word: usize,
-    pub byte: usize,
-}
 
 // A number and the byte behind it.
 pub fn put_word(text: &mut [u8], at: usize, n: u32, behind: u8) -> usize
@@ -26,18 +19,25 @@ pub fn put_word(text: &mut [u8], at: usize, n: u32, behind: u8) -> usize
     put_byte(text, end, behind)
 }
 
-pub fn put_line(text: &mut [u8], at: Places, words: &[u32], many: usize) -> Places
-    requires { (0 < many) × Printable (line_form many) words.now (length text.old) at }
-    ensures { Printed (line_form many) words.now text.old at result text.new }
-{
-    let last = at.word + many - 1;
-    let mut end = at.byte;
-    for word in &words[at.word..last] {
-        end = put_word(text, end, *word, b' ');
-    }
-    end = put_word(text, end, words[last], b'\n');
-    Places {
-        word: last + 1,
-        byte: end,
+// So many words, and one more as the last.
+#[derive(Clone, Copy)]
+pub struct Line {
+    pub before: usize,
+}
+
+impl Part for Line {
+    ghost form = { λ l. line_form (l.before + 1) };
+
+    fn put(self, text: &mut [u8], at: Places, words: &[u32]) -> Places {
+        let last = at.word + self.before;
+        let mut end = at.byte;
+        for word in &words[at.word..last] {
+            end = put_word(text, end, *word, b' ');
+        }
+        end = put_word(text, end, words[last], b'\n');
+        Places {
+            word: last + 1,
+            byte: end,
+        }
     }
 }

@@ -3,31 +3,15 @@
 #![tactic(auto)]
 
 use sheet_text::file::SHEET_WORDS;
-use sheet_text::input::{MOST_TEXT, sheet_text};
+use sheet_text::input::{MOST_TEXT, ROOM_WORDS, sheet_text};
 use std::io;
-use vector_io::answers::{judged, replay};
-use vector_io::{read_full, read_word};
+use vector_io::answers::{judged, print_replayed};
+use vector_io::read_counted_bytes;
 
 // More bytes than any stored run reads.
 const INPUT_BYTES: usize = 32772;
 // More runs than are stored.
 const MOST_RUNS: u32 = 1000;
-// 69 levels of 24,576 words.
-const ROOM_WORDS: usize = 1695744;
-
-// A count of the input, then so many bytes to the front of a slice; None where the input ends first or there is no room.
-fn read_part<'a>(rt: &impl Input, bytes: &'a mut [u8]) -> io::Result<Option<&'a [u8]>> {
-    let Some(count) = read_word(rt)? else {
-        return Ok(None);
-    };
-    let Some(part) = bytes.get_mut(..count as usize) else {
-        return Ok(None);
-    };
-    if read_full(&mut rt.reader(), part)? == part.len() {
-        return Ok(Some(part));
-    }
-    Ok(None)
-}
 
 fn is_right(
     bytes: &[u8],
@@ -49,10 +33,10 @@ fn replay_run(
     lines: &mut [u32],
     room: &mut [u32],
 ) -> io::Result<Option<u64>> {
-    let Some(bytes) = read_part(rt, bytes)? else {
+    let Some(bytes) = read_counted_bytes(rt, bytes)? else {
         return Ok(None);
     };
-    let Some(expected) = read_part(rt, expected)? else {
+    let Some(expected) = read_counted_bytes(rt, expected)? else {
         return Ok(None);
     };
     let right = is_right(bytes, expected, text, lines, room);
@@ -67,11 +51,11 @@ fn replay_all(
     lines: &mut [u32],
     room: &mut [u32],
 ) -> io::Result<()> {
-    let right = replay(
+    print_replayed(
+        rt,
         MOST_RUNS,
         |k| replay_run(rt, k, bytes, expected, text, lines, room),
-    )?;
-    rt.println(right)
+    )
 }
 
 fn main(rt: HostRuntime) -> io::Result<()> {

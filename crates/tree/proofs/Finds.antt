@@ -67,7 +67,7 @@ pub value_in_lem : (s : List ℕ) (at : ℕ) {v : Value} → value_at s at ≡ S
 unfolding value_at
 value_in_lem s at {v} = go (node_at s at) refl
   where
-    go : (w : Option Node) → node_at s at ≡ w → on_end w (λ n. value_of n.kind n.low) None ≡ Some v → at + 6 ≤ length s
+    go : (w : Option Node) → node_at s at ≡ w → on_end w (λ n. value_of n.value.kind n.value.low) None ≡ Some v → at + 6 ≤ length s
     go (Some n) e q = node_in_lem s at e
     go None e q = cc
 

@@ -28,7 +28,7 @@ unfoldable pub value_of : ℕ → ℕ → Option Value
 value_of kind low = pick (ltb kind 13) (Some value.Leaf) (pick (eqb kind 13) (Some (value.Array low)) (pick (eqb kind 14) (Some (value.Structure low)) None))
 
 unfoldable pub value_at : List ℕ → ℕ → Option Value
-value_at s at = on_end (node_at s at) (λ n. value_of n.kind n.low) None
+value_at s at = on_end (node_at s at) (λ n. value_of n.value.kind n.value.low) None
 
 -- the first of so many trees from `at` on that has the name
 unfoldable pub seek : List ℕ → ℕ → ℕ → ℕ → Option Span
@@ -42,7 +42,7 @@ unfoldable pub nth_of : List ℕ → ℕ → ℕ → Option Span
 nth_of s from i = on_end (after_of s from i) (λ b. on_end (whole_of s b) (λ e. Some (span b e)) None) None
 
 unfoldable pub part_of : List ℕ → ℕ → ℕ → Option Span
-part_of s at i = on_end (node_at s at) (λ n. pick (ltb i (parts_of n.kind n.low)) (nth_of s (at + 6) i) None) None
+part_of s at i = on_end (node_at s at) (λ n. pick (ltb i (parts_of n.value.kind n.value.low)) (nth_of s (at + 6) i) None) None
 
 -- ---- of trees
 -- what a whole tree is

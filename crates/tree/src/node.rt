@@ -1,23 +1,39 @@
-// Nodes: a name or 0, a kind, then a constant's four words.
+// Nodes: a name or 0, then a constant's five words.
 #![tactic(auto, using(crate::proofs::Writes::writes))]
 
 ghost use Rattle.std.specs.Prelude.{◌≡◌, ◌+◌, ◌≤◌, length};
 ghost use Rattle.std.proofs.Math.Seq.{paste};
-ghost use Rattle.definition.specs.Tree.{flatten, leaf};
-ghost use Rattle.tree.specs.Node.{node_of, node_at, words_of, head_words, Renamed};
+ghost use Rattle.definition.specs.Tree.{flatten, constant_tree};
+ghost use Rattle.tree.specs.Node.{node_of, node_at, nameless, words_of, head_words, Renamed};
 ghost use Rattle.tree.specs.Words.{WroteNode};
 
 use crate::words::fits;
 use definition::layout::NODE_WORDS;
+use definition::records::Constant;
 
 #[derive(Clone, Copy)]
 pub struct Node {
     pub name: u32,
-    pub kind: u32,
-    pub sign: u32,
-    pub low: u32,
-    pub high: u32,
-    pub width: u32,
+    pub value: Constant,
+}
+
+// A value that no field holds yet.
+impl From<Constant> for Node {
+    ghost from_gives = { λ c n. n ≡ nameless c };
+
+    fn from(value: Constant) -> Node {
+        Node { name: 0, value }
+    }
+}
+
+// Its six words, in the order of the fields.
+impl From<Node> for [u32; 6] {
+    ghost from_gives = { λ n words. words ≡ words_of n };
+
+    fn from(n: Node) -> [u32; 6] {
+        let c = n.value;
+        [n.name, c.kind, c.sign, c.low, c.high, c.width]
+    }
 }
 
 // The node of the six words at a place.
@@ -27,11 +43,13 @@ pub fn get(s: &[u32], at: usize) -> Node
 {
     Node {
         name: s[at],
-        kind: s[at + 1],
-        sign: s[at + 2],
-        low: s[at + 3],
-        high: s[at + 4],
-        width: s[at + 5],
+        value: Constant {
+            kind: s[at + 1],
+            sign: s[at + 2],
+            low: s[at + 3],
+            high: s[at + 4],
+            width: s[at + 5],
+        },
     }
 }
 
@@ -50,7 +68,7 @@ fn put(out: &mut [u32], at: usize, n: Node)
     requires { at + 6 ≤ length out.old }
     ensures { out.new ≡ paste out.old at (words_of n) 6 }
 {
-    out[at..at + NODE_WORDS].copy_from_slice(&[n.name, n.kind, n.sign, n.low, n.high, n.width]);
+    out[at..at + NODE_WORDS].copy_from_slice(&<[u32; 6]>::from(n));
 }
 
 // Writes a node where there is room, and answers where it ends.
@@ -66,47 +84,24 @@ pub fn write(out: &mut [u32], at: usize, n: Node) -> Option<usize>
 }
 
 // A value without parts (kinds 0 to 12).
-#[tactic(auto, using(crate::proofs::Writes::writes), unfolding(definition::specs::Tree::flatten, definition::specs::Tree::leaf))]
-pub fn write_leaf(
-    out: &mut [u32],
-    at: usize,
-    kind: u32,
-    sign: u32,
-    low: u32,
-    high: u32,
-    width: u32,
-) -> Option<usize>
-    ensures { WroteNode out.old at (flatten (leaf kind sign low high width)) result out.new }
+#[tactic(auto, using(crate::proofs::Writes::writes), unfolding(definition::specs::Tree::flatten, definition::specs::Tree::constant_tree, definition::specs::Tree::leaf))]
+pub fn write_leaf(out: &mut [u32], at: usize, value: Constant) -> Option<usize>
+    ensures { WroteNode out.old at (flatten (constant_tree value)) result out.new }
 {
-    write(
-        out,
-        at,
-        Node {
-            name: 0,
-            kind,
-            sign,
-            low,
-            high,
-            width,
-        },
-    )
+    write(out, at, Node::from(value))
 }
 
 fn write_head(out: &mut [u32], at: usize, kind: u32, count: u32) -> Option<usize>
     ensures { WroteNode out.old at (head_words kind count) result out.new }
 {
-    write(
-        out,
-        at,
-        Node {
-            name: 0,
-            kind,
-            sign: 0,
-            low: count,
-            high: 0,
-            width: 0,
-        },
-    )
+    let value = Constant {
+        kind,
+        sign: 0,
+        low: count,
+        high: 0,
+        width: 0,
+    };
+    write(out, at, Node::from(value))
 }
 
 // The head of an array of so many values, which stand or will stand behind it.

@@ -33,7 +33,7 @@ pub fn value_at(s: &[u32], at: usize) -> Option<Value>
     ensures { result ≡ value_at s.now at }
 {
     let n = read(s, at)?;
-    value_of(n.kind, n.low)
+    value_of(n.value.kind, n.value.low)
 }
 
 // The first of so many trees from a place on that has a name.
@@ -76,7 +76,7 @@ pub fn part(s: &[u32], at: usize, i: u32) -> Option<Span>
     ensures { result ≡ part_of s.now at i }
 {
     let n = read(s, at)?;
-    if i < parts_of(n.kind, n.low) {
+    if i < parts_of(n.value.kind, n.value.low) {
         nth(s, at + NODE_WORDS, i as usize)
     } else {
         None

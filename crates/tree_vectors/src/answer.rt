@@ -26,10 +26,11 @@ fn value<W: fmt::Write>(f: &mut fmt::Formatter<W>, v: Value) -> fmt::Result {
 }
 
 fn node<W: fmt::Write>(f: &mut fmt::Formatter<W>, n: Node) -> fmt::Result {
+    let c = n.value;
     write!(
         f,
         "{} {} {} {} {} {}",
-        n.name, n.kind, n.sign, n.low, n.high, n.width
+        n.name, c.kind, c.sign, c.low, c.high, c.width
     )
 }
 

@@ -1,5 +1,6 @@
 // One case: its function, with its numbers and its words, and the line of what it answers.
 use crate::answer::Answer;
+use definition::records::Constant;
 use std::io;
 use tree::extent::Span;
 use tree::{extent, node, part, words};
@@ -41,8 +42,15 @@ fn write(function: u32, x: [u32; 8], s: &[u32], out: &mut [u32]) -> Option<Answe
     let [a, b, c, d, _, _, _, _] = x.map(|n| n as usize);
     match function {
         21 => {
-            let end = node::write_leaf(out, a, x[1], x[2], x[3], x[4], x[5]);
-            Some(Answer::End(end))
+            let [_, kind, sign, low, high, width, _, _] = x;
+            let value = Constant {
+                kind,
+                sign,
+                low,
+                high,
+                width,
+            };
+            Some(Answer::End(node::write_leaf(out, a, value)))
         }
         22 => Some(Answer::End(node::write_array(out, a, x[1]))),
         23 => Some(Answer::End(node::write_structure(out, a, x[1]))),

@@ -76,11 +76,13 @@ pub fn read_words<T: Word>(rt: &impl Input, words: &mut [T]) -> io::Result<bool>
     Ok(true)
 }
 
-// A count and then so many words, which become the front of `words`; None where the input ends first or there is no room.
-pub fn read_counted<'a, T: Word>(
+// A count, and the front of a slice that `fill` says it has filled with so many; None where the input ends first or there is no room.
+fn read_part<'a, T, F: FnOnce(&mut [T]) -> io::Result<bool>>(
     rt: &impl Input,
     words: &'a mut [T],
+    fill: F,
 ) -> io::Result<Option<&'a mut [T]>>
+    requires { F.IsAlwaysCallable fill }
     ensures { IfOk result (λ read. IfSome read (λ front. length front.now ≤ length words.old)) }
 {
     let Some(count) = read_word(rt)? else {
@@ -89,8 +91,32 @@ pub fn read_counted<'a, T: Word>(
     let Some(front) = words.get_mut(..count as usize) else {
         return Ok(None);
     };
-    if read_words(rt, front)? {
+    if fill(front)? {
         return Ok(Some(front));
     }
     Ok(None)
+}
+
+// A count and then so many words, which become the front of `words`; None where the input ends first or there is no room.
+pub fn read_counted<'a, T: Word>(
+    rt: &impl Input,
+    words: &'a mut [T],
+) -> io::Result<Option<&'a mut [T]>>
+    ensures { IfOk result (λ read. IfSome read (λ front. length front.now ≤ length words.old)) }
+{
+    read_part(rt, words, |front| read_words(rt, front))
+}
+
+// The same with so many bytes behind the count.
+pub fn read_counted_bytes<'a>(
+    rt: &impl Input,
+    bytes: &'a mut [u8],
+) -> io::Result<Option<&'a mut [u8]>>
+    ensures { IfOk result (λ read. IfSome read (λ front. length front.now ≤ length bytes.old)) }
+{
+    read_part(
+        rt,
+        bytes,
+        |front| Ok(read_full(&mut rt.reader(), front)? == front.len()),
+    )
 }

@@ -1,54 +1,40 @@
 -- A law for each call and each return of refusal.rt, and what holds where nothing is refused. Assumes nothing.
-use mathlib.Core.Path.{◌≡◌, refl, ap, sym, ◌∙◌}
+use mathlib.Core.Path.{◌≡◌, refl, ap, ◌∙◌}
 use mathlib.Core.Bool.{Bool, true, false, ◌&&◌}
 use mathlib.Core.List.{List}
-use Prim.Native.Nat.{ℕ, ◌≤◌, ◌<◌, min}
+use Prim.Native.Nat.{ℕ, ◌≤◌, min}
 use native.Mathlib.Omega.{arith}
 use lib.Dec.{eqb, leb}
 use borrow.Author.Rules.{rules}
-use borrow.Author.Tests.{eqb-true, eqb-false, leb-true, le-leb, lt-leb}
+use borrow.Author.Tests.{eqb-true, eqb-false, leb-true}
 use Rattle.std.specs.Prelude.{Result, Ok, Err, is_ok, MatchResult}
 use Rattle.definition.specs.declared.answers.Refusal.{Refusal}
-use Rattle.definition.specs.declared.answers.Refusal.TheVariants as refusal
 use Rattle.definition.specs.Base.{choose}
 use Rattle.definition.specs.Accept.{need, verdict}
 use Rattle.definition.specs.Answers.{number_of, line_words, room_words, enough_sheet, write_refused}
 use Rattle.laws.specs.Cases.{both}
 use Rattle.records.specs.declared.file.File.{File}
-use Rattle.acceptance.proofs.Wanting.{at-least-one, file-passes, file-refuses}
+use denote.Ref.{Bor}
+use Rattle.acceptance.specs.Admitted as Asked
+use Rattle.acceptance.specs.Admitted.{refusal_in}
+use Rattle.acceptance.proofs.Wanting.{at-least-one}
 use Rattle.writer.specs.Sheets.{Passed}
 
--- ---- `is_enough`
-module _ (f : List ℕ) (out lines room : ℕ) {n m : ℕ} (q : n ≡ line_words f) (e : m ≡ min out n) where
-  pub enough-not : lines < m → false ≡ enough_sheet f out lines room
-  unfolding enough_sheet
-  enough-not h = let k : lines < min out (line_words f) = rw (e, q) at h in rw (lt-leb (min out (line_words f)) lines k)
-
-  pub enough-so : m ≤ lines → {w : ℕ} → w ≡ room_words f → leb w room ≡ enough_sheet f out lines room
-  unfolding enough_sheet
-  enough-so h d = let k : min out (line_words f) ≤ lines = rw (e, q) at h in rw (le-leb (min out (line_words f)) lines k, d)
+-- ---- `asked`
+pub enough-words : (f : List ℕ) (out lines room : ℕ) {n m : ℕ} → n ≡ line_words f → m ≡ min out n → (r : Result (Unit {0}) Refusal)
+    → refusal_in r ≡ need (leb m lines && leb (room_words f) room) 10 (λ u. 0) → refusal_in r ≡ need (enough_sheet f out lines room) 10 (λ u. 0)
+unfolding enough_sheet
+enough-words f out lines room q e r h = rw (← q, ← e) h
 
 -- ---- `admitted`
-module _ (f : List ℕ) (out lines room : ℕ) where
-  pub refused-file : (r : Refusal) → number_of r ≡ verdict f → number_of r ≡ write_refused f out lines room
-  unfolding write_refused
-  refused-file r e = file-refuses f (λ u. need (enough_sheet f out lines room) 10 λ v. 0) r e
+pub admitted-by : (f : List ℕ) (out lines room : ℕ) {answers : Bor File → Result (Unit {0}) Refusal → Type 0} {r : Result File Refusal} → Asked.Admits answers f r
+    → ((file : Bor File) (a : Result (Unit {0}) Refusal) → answers file a → refusal_in a ≡ need (enough_sheet file.now.source out lines room) 10 (λ u. 0))
+    → MatchResult r (λ file. (file.source ≡ f) × (write_refused f out lines room ≡ 0)) (λ refusal. number_of refusal ≡ write_refused f out lines room)
+unfolding write_refused
+admitted-by f out lines room x h =
+    x.is (λ u. need (enough_sheet f out lines room) 10 (λ u. 0)) (λ file a q p. h file a p ∙ ap (λ (l : List ℕ). need (enough_sheet l out lines room) 10 (λ u. 0)) q)
 
-  module _ {g : List ℕ} (q : g ≡ f) (e : verdict f ≡ 0) {b : Bool} (s : b ≡ enough_sheet g out lines room) where
-    passes : write_refused f out lines room ≡ need b 10 (λ v. 0)
-    unfolding write_refused
-    passes =
-        file-passes f (λ u. need (enough_sheet f out lines room) 10 λ v. 0) e
-        ∙ ap (λ (b : Bool). need b 10 (λ v. 0)) (sym (s ∙ ap (λ (l : List ℕ). enough_sheet l out lines room) q))
-
-    pub refused_none : b ≡ true → write_refused f out lines room ≡ 0
-    refused_none p = passes ∙ ap (λ (b : Bool). need b 10 (λ v. 0)) p
-
-    pub refused-words : b ≡ false → number_of refusal.Short ≡ write_refused f out lines room
-    unfolding number_of
-    refused-words p = sym (passes ∙ ap (λ (b : Bool). need b 10 (λ v. 0)) p)
-
-pub ruleset refusing = (rules, enough-not, enough-so, refused-file, refused_none, refused-words)
+pub ruleset refusing = (rules, enough-words, admitted-by)
 
 -- ---- what holds where nothing is refused
 pub passed : (f : List ℕ) (out lines room : ℕ) → write_refused f out lines room ≡ 0 → Passed f out lines room

@@ -27,12 +27,14 @@ use Rattle.ranks.proofs.Found.{found-ranked, found-circle}
 use Rattle.driver.specs.Tables.{Front}
 use Rattle.driver.specs.Driver.{Given, Holding}
 use Rattle.driver.specs.Every.{every_memo, ResolvesAll}
-use Rattle.driver.proofs.Settling.{given-kept, to-ready}
+use Rattle.driver.proofs.Settling.{given-kept, given-ready}
 use Rattle.driver.proofs.Sheets.{every-is, every-holding, sheet-longer, variable-told}
-use Rattle.resolver.proofs.Answering.{cleared-same}
+use Rattle.lines.proofs.Memories.{cleared-same}
+use Rattle.resolver.proofs.Answering.{copied-so, copied-not}
 use Rattle.sheet_parts.specs.Resolved.{Resolved}
 use Rattle.writer.specs.Sheets.{Passed, LowestRanks, Answers, AnswersRanked}
 use Rattle.writer.proofs.Refusing.{passed-by}
+use Rattle.std.specs.Option.{ok_or}
 use Rattle.std.specs.Prelude.{None, Option, Some, Result, Ok, Err}
 
 -- ---- `write_given`
@@ -48,18 +50,23 @@ module _ {f : List ℕ} {out lines room : ℕ} (p : Passed f out lines room) {ra
   all-resolved g {tables} s {r} {store} d {end} i =
       let h : Holding f (index_in tables) store end (every_memo f (count f types)) = every-holding f p.accepts (rank_at ranks) up d i in
       record {
-        ready = to-ready (given-kept g s room refl) (record { memo = every_memo f (count f types); holding = h });
+        wide = omega (arith, (given-kept g s room refl).tables);
+        ready = given-ready (given-kept g s room refl) (record { memo = every_memo f (count f types); holding = h });
         typed = λ t l. rw (every-is f p.accepts (rank_at ranks) up t l) at (looks h.remembers t (omega (arith, h.all)));
         told = λ v l old new made b. variable-told f p.accepts (rank_at ranks) up d i v l b;
       }
 
-  pub full-short : {r : Option ℕ} {index store : List ℕ} → ResolvesAll f r index store → r ≡ None → length store ≡ lines → {old : List ℕ} → length old ≡ out
+  too-short : {r : Option ℕ} {index store : List ℕ} → ResolvesAll f r index store → r ≡ None → length store ≡ lines → {old : List ℕ} → length old ≡ out
       → Answers (sheet_with f (rank_at ranks)) old (Err refusal.Short) old
   unfolding number_of words_say written_answer over
-  full-short {store = store} d i e {old} j =
+  too-short {store = store} d i e {old} j =
       let l : out < length (sheet_with f (rank_at ranks)) = sheet-longer f p.accepts (rank_at ranks) up d i out (omega (arith, p.lined)) in
       let b : leb (length (sheet_with f (rank_at ranks))) (length old) ≡ false = lt-leb (length (sheet_with f (rank_at ranks))) (length old) (omega arith) in
       record { says = rw b; is = rw b }
+
+  pub full-short : {r : Option ℕ} {index store : List ℕ} → ResolvesAll f r index store → {a : Result ℕ Refusal} → a ≡ ok_or r refusal.Short → {y : Refusal} → a ≡ Err y
+      → {w : Result ℕ Refusal} → w ≡ Err y → length store ≡ lines → {old : List ℕ} → length old ≡ out → Answers (sheet_with f (rank_at ranks)) old w old
+  full-short d k i q e j = let z = copied-not k i in rw (q, z.1) (too-short d z.0 e j)
 
 pub room-kept : {w n : ℕ} → w ≤ n → (m : ℕ) → m ≡ n → w ≤ m
 room-kept h m e = omega arith
@@ -71,9 +78,9 @@ module _ {f : List ℕ} {n : ℕ} {r : Result (Unit {0}) Circle} {new : List ℕ
   pub found-lowest : {u : Unit {0}} → r ≡ Ok u → LowestRanks f new
   found-lowest i = record { is = found-ranked (ranks_of f) g i }
 
-  pub found_none : {c : Circle} → r ≡ Err c → {old : List ℕ} → AnswersRanked f old (Err refusal.Circle) old
+  pub found_none : {c : Circle} → r ≡ Err c → {w : Result ℕ Refusal} → w ≡ Err refusal.Circle → {old : List ℕ} → AnswersRanked f old w old
   unfolding number_of words_say ranked_answer ranked_out
-  found_none i = let e : ranks_of f ≡ circle = (found-circle (ranks_of f) g i).0 in record { says = rw e; is = rw e }
+  found_none i q = let e : ranks_of f ≡ circle = (found-circle (ranks_of f) g i).0 in rw q (record { says = rw e; is = rw e })
 
   pub lowest-answers : {u : Unit {0}} → r ≡ Ok u → {old new' : List ℕ} {a : Result ℕ Refusal} → Answers (sheet_with f (rank_at new)) old a new' → AnswersRanked f old a new'
   unfolding ranked_answer ranked_out

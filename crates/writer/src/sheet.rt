@@ -15,7 +15,7 @@ use definition::answers::Refusal;
 use definition::layout::TYPES;
 use driver::every::resolve_types;
 use driver::tables::KNOWN_WORDS;
-use ranks::lowest::{Circle, lowest_ranks};
+use ranks::lowest::lowest_ranks;
 use records::file::File;
 use resolver::lent::with_lent;
 use shapes::classes::shape_classes;
@@ -35,10 +35,8 @@ fn write_given(
     requires { Given file.now.source known.old (length room.old) × Passed file.now.source (length out.old) (length lines.old) (length room.old) × LowestRanks file.now.source ranks.now }
     ensures { Answers (sheet_with file.now.source (rank_at ranks.now)) out.old result out.new }
 {
-    match resolve_types(file, known, lines, room) {
-        Some(end) => write_resolved(file, &known[..], &lines[..], ranks, room, out),
-        None => Err(Refusal::Short),
-    }
+    resolve_types(file, known, lines, room).ok_or(Refusal::Short)?;
+    write_resolved(file, &known[..], &lines[..], ranks, room, out)
 }
 
 fn write_ranked(
@@ -67,10 +65,8 @@ fn write_lowest(
     requires { Passed file.now.source (length out.old) (length lines.old) (length room.old) × (length ranks.old ≡ Layout.count file.now.source Layout.types) }
     ensures { AnswersRanked file.now.source out.old result out.new }
 {
-    match lowest_ranks(file, ranks) {
-        Ok(()) => write_ranked(file, &ranks[..], out, lines, room),
-        Err(Circle) => Err(Refusal::Circle),
-    }
+    lowest_ranks(file, ranks)?;
+    write_ranked(file, &ranks[..], out, lines, room)
 }
 
 fn write_passed(

@@ -50,7 +50,8 @@ use Rattle.build.specs.declared.built.Unbuilt.{Unbuilt}
 use Rattle.build.specs.Built.{Built, Gives, Puts, Memory, Builds}
 use Rattle.build.specs.Parts.{implicit_levels, start_levels, is_listed, listed_names, field_ask, BuildsField, array_words, Spreads}
 use Rattle.build.specs.Fields.{NamesField}
-use Rattle.build.proofs.Peeks.{then_peek, peek-then, err-no-end, gives-err, gives-ends, kept-before}
+use Rattle.build.proofs.Peeks.{then_peek, peek-then, err-no-end, gives-err, gives-ends, kept-before, link-some, link-none}
+use Rattle.build.proofs.leaves.Laws.{leaf-all}
 use Rattle.build.proofs.Levels.{levels-implicit, levels-typed, levels-some, element-levels, field-levels}
 use Rattle.build.proofs.Smalls.{default-small, elements-small, default-whole, default-after}
 use Rattle.build.proofs.Gathers.{SoFar, so-far-none, so_far_skip, so-far-all, so-far-fails, so_far_more}
@@ -60,7 +61,7 @@ use Rattle.places.specs.declared.block.Run.{Run}
 
 -- ---- the same computation
 module _ {A : Type 0} {f known store : List ℕ} {words : A → List ℕ} {at : ℕ} {old : List ℕ} {r : Built} {new : List ℕ} where
-  same : (m n : Ask (Result A)) → n ≡ m → Builds f known store words m at old r new → Builds f known store words n at old r new
+  pub same : (m n : Ask (Result A)) → n ≡ m → Builds f known store words m at old r new → Builds f known store words n at old r new
   same m n e h = record { gives = λ M x. rw e (h.gives M x); kept = h.kept }
 
 -- ---- `default_of`
@@ -69,22 +70,25 @@ module _ (f : List ℕ) (place : Place) where
   unfolding Defaults.default_of default_by
   is-implicit e = ap (λ (i : ℕ). if_stated i (λ u. implicit f place) type_default) e
 
-  is-typed : (place.id ≡ 0 → ⊥) → default_of f place ≡ type_default (place.id - 1)
+  is-typed : {t : ℕ} → place.id ≡ suc t → default_of f place ≡ type_default t
   unfolding Defaults.default_of default_by
-  is-typed n = let z : place.id ≡ suc (place.id - 1) = omega (arith, n) in ap (λ (i : ℕ). if_stated i (λ u. implicit f place) type_default) z
+  is-typed e = ap (λ (i : ℕ). if_stated i (λ u. implicit f place) type_default) e
 
   module _ {known store : List ℕ} {at : ℕ} {old : List ℕ} {r : Built} {new : List ℕ} where
     pub default-implicit : place.id ≡ 0 → Builds f known store flatten (implicit f place) at old r new → Builds f known store flatten (default_of f place) at old r new
     default-implicit e h = same (implicit f place) (default_of f place) (is-implicit e) h
 
-    pub default-typed : (place.id ≡ 0 → ⊥) → Builds f known store flatten (type_default (place.id - 1)) at old r new → Builds f known store flatten (default_of f place) at old r new
-    default-typed n h = same (type_default (place.id - 1)) (default_of f place) (is-typed n) h
+    pub default-typed : {t : ℕ} → place.id ≡ suc t → Builds f known store flatten (type_default t) at old r new → Builds f known store flatten (default_of f place) at old r new
+    default-typed {t} e h = same (type_default t) (default_of f place) (is-typed e) h
+
+  pub typed-type : {t : ℕ} → place.id ≡ suc t → PlaceIn f place → IsType f t
+  typed-type {t} e i = link-to (IsType f) place.id t e i.types.type
 
   pub implicit-room : (at n : ℕ) → at + start_levels f place * 12288 ≤ n → place.id ≡ 0 → at + implicit_levels f place * 12288 ≤ n
   implicit-room at n h e = omega (arith, levels-implicit f place e)
 
-  pub typed-room : (at n : ℕ) → at + start_levels f place * 12288 ≤ n → (place.id ≡ 0 → ⊥) → at + 12288 ≤ n
-  typed-room at n h e = omega (arith, levels-typed f place e)
+  pub typed-room : (at n : ℕ) → at + start_levels f place * 12288 ≤ n → {t : ℕ} → place.id ≡ suc t → at + 12288 ≤ n
+  typed-room at n h e = omega (arith, levels-typed f place (λ z. omega (arith, e, z)))
 
   pub implicit-falls : (t : ℕ) → 4 * start_levels f place + 3 ≡ t → place.id ≡ 0 → 4 * implicit_levels f place + 2 < t
   implicit-falls t h e = omega (arith, levels-implicit f place e)
@@ -209,14 +213,14 @@ module _ {f : List ℕ} (a : Accepted f) {place : Place} (i : PlaceIn f place) w
         go M (wants d) k x = record { says = x.says; stands = tt }
 
   pub block_none : {known store : List ℕ} {at : ℕ} {old : List ℕ} {n : ℕ} → place.shape ≡ shape.FunctionBlock n → {b : Option Run} → b ≡ block_run f place → b ≡ std.None
-      → Builds f known store flatten (implicit f place) at old (Err unbuilt.None) old
+      → {r : Built} → r ≡ Err unbuilt.None → Builds f known store flatten (implicit f place) at old r old
   unfolding names_of ◌>>=◌ bind
-  block_none e q k =
+  block_none e q k i =
       let w : block_field_names f place ≡ none = names-of-run f place ∙ ap (names_of f) (sym q ∙ k) in
-      record {
+      rw i (record {
         gives = λ M x. rw (by_shape ∙ ap shaped e ∙ ap (λ (x : Result (List ℕ)). done x >>= λ names. structured (fields_by f (default_of f) place names)) w, peek-done) (record { says = refl; stands = tt });
         kept = refl;
-      }
+      })
 
 -- what fits a run of fields
 pub structure-fits : {f : List ℕ} → Accepted f → {place : Place} → PlaceIn f place → {first many : ℕ} → place.shape ≡ shape.Structure first many → first + many < 2 ^ 32
@@ -233,11 +237,8 @@ module _ {f : List ℕ} (a : Accepted f) {place : Place} (i : PlaceIn f place) {
       recorded : (t l : ℕ) → IsType f t → recorded_block f t ≡ l → on_link l std.None (λ b. Some (run_of b)) ≡ Some run → run.first + run.count < 2 ^ 32
       recorded t zero h e z = cc
       recorded t (suc d) h e z =
-          let u : suc d - 1 ≡ d = omega arith in
-          let x : run_of d ≡ run = cc in
-          let v : run.first ≡ word f Layout.types (suc d - 1) 9 = rw u (sym (ap (λ (y : Run). y.first) x)) in
-          let w : run.count ≡ word f Layout.types (suc d - 1) 10 = rw u (sym (ap (λ (y : Run). y.count) x)) in
-          block-fits f t (sym e) (λ y. omega arith) v w a h
+          let x : run ≡ run_of d = cc in
+          block-fits f t (sym e) x a h
 
       typed : (l : ℕ) → place.id ≡ l → on_link l std.None (λ t. on_link (recorded_block f t) std.None (λ b. Some (run_of b))) ≡ Some run → run.first + run.count < 2 ^ 32
       typed zero e z = cc
@@ -316,14 +317,14 @@ one-gives to name t e new x =
     record { says = ap Ok (sym y.long); stands = rw y.long y }
 
 module _ (f : List ℕ) (place : Place) (name : ℕ) (w : Option Place) (k : result_of w ≡ field_place f place name) where
-  pub field-none : {known store : List ℕ} {at to : ℕ} {old : List ℕ} → w ≡ std.None → BuildsField f known store place name at to old (Err unbuilt.None) old
-  field-none e =
+  pub field-none : {known store : List ℕ} {at to : ℕ} {old : List ℕ} → w ≡ std.None → {r : Built} → r ≡ Err unbuilt.None → BuildsField f known store place name at to old r old
+  field-none e i =
       let z : field_place f place name ≡ none = sym k ∙ ap result_of e in
-      record {
+      rw i (record {
         gives = λ size u M m. rw (peek-field f place name M size, z) (record { says = refl; stands = tt });
         ends = λ e q. let z : ◌≡◌ {A = ℕ} 0 1 = cc in absurd (omega arith);
         kept = refl;
-      }
+      })
 
   module _ {inner : Place} (e : w ≡ Some inner) where
     peek-inner : (M : Memo) (size : ℕ) → peek M (field_ask f place name size) ≡ then_peek (peek M (default_of f inner)) (λ t. peek M (field size name t))
@@ -376,4 +377,4 @@ module _ (f : List ℕ) (place : Place) (name : ℕ) (w : Option Place) (k : res
                 }
 
 pub ruleset laws =
-    (rules, opened, place-linked, linked-type, default-implicit, default-typed, implicit-room, typed-room, implicit-falls, implicit-structure, implicit-leaves, implicit-block, implicit-array, block_none, structure-fits, block-run-fits, element-shape, element-room, tree-room, inner-in, inner_room, inner-falls, element-fails, element-all, default-whole, default-after, field-none, field_in, field_room, field-falls, field-fails, field-all, so-far-none, so_far_skip, so-far-all, so-far-fails, so_far_more)
+    (rules, opened, place-linked, linked-type, link-some, link-none, leaf-all, default-implicit, default-typed, typed-type, implicit-room, typed-room, implicit-falls, implicit-structure, implicit-leaves, implicit-block, implicit-array, block_none, structure-fits, block-run-fits, element-shape, element-room, tree-room, inner-in, inner_room, inner-falls, element-fails, element-all, default-whole, default-after, field-none, field_in, field_room, field-falls, field-fails, field-all, so-far-none, so_far_skip, so-far-all, so-far-fails, so_far_more)

@@ -43,7 +43,7 @@ pub node_kept : {old : List ℕ} {at : ℕ} {ws : List ℕ} {x : Option ℕ} {ne
 node_kept {old} {at} w = wrote_kept (leb (at + 6) (length old)) (λ e. omega (arith, leb-true (at + 6) (length old) e)) w
 
 module _ {v : Option Constant} {c : Constant} {a : std.Result Constant Unbuilt} (k : a ≡ ok_or v unbuilt.None) (i : a ≡ Ok c) {old : List ℕ} {at : ℕ} {w : Option ℕ} {new : List ℕ}
-    (x : WroteNode old at (flatten (leaf c.kind c.sign c.low c.high c.width)) w new) where
+    (x : WroteNode old at (flatten (constant_tree c)) w new) where
   pub leaf-put : {r : Built} → r ≡ ok_or w unbuilt.None → PutsLeaf v at old r new
   unfolding as_tree constant_tree
   leaf-put {r} q = record { kept = node_kept x; gives = go v (sym k ∙ i) }
@@ -71,9 +71,9 @@ leaf-none {v} k {u} i {r} q {old} {at} = record { kept = refl; gives = λ h. go 
 pub leaf-puts : {v : Option Constant} {at : ℕ} {old : List ℕ} {r : Built} {new : List ℕ} → PutsLeaf v at old r new → at + 6 ≤ length old → Puts flatten (got (as_tree (result_of v))) at old r new
 leaf-puts x h = record { gives = x.gives h; kept = x.kept }
 
--- ---- `implicit_leaf`
+-- ---- the value of a shape that nothing declares one for
 pub leaf-all : (f : List ℕ) (s : Shape) {v : Option Constant} → as_tree (result_of v) ≡ built_in f s → {at : ℕ} {old : List ℕ} {r : Built} {new : List ℕ} → PutsLeaf v at old r new
     → at + 6 ≤ length old → Puts flatten (got (built_in f s)) at old r new
 leaf-all f s e x h = rw e at (leaf-puts x h)
 
-pub ruleset laws = (rules, leaf-put, leaf-none, leaf-all)
+pub ruleset laws = (rules, leaf-put, leaf-none)

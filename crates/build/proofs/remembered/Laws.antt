@@ -22,7 +22,7 @@ use Rattle.lines.proofs.Meanings.{copy-unknown, copy-none, copy-large, copy-ends
 use Rattle.lines.proofs.Memories.{remembers-small}
 use Rattle.build.specs.declared.built.Unbuilt.TheVariants as unbuilt
 use Rattle.definition.specs.Tree.{tree_words}
-use Rattle.build.specs.Built.{index_in, Gives, Memory, Builds}
+use Rattle.build.specs.Built.{Gives, Memory, Builds}
 use Rattle.build.proofs.leaves.Laws.{paste-kept}
 use Rattle.std.specs.Prelude.{Err, Ok}
 use Rattle.std.specs.Prelude as std
@@ -38,9 +38,9 @@ copied-kept store old at h (Ok w) = go (copy_fits store w.at w.nodes old at)
     go false = refl
 copied-kept store old at h (Err w) = refl
 
-module _ (f known : List ℕ) {t : ℕ} (i : IsType f t) {store old : List ℕ} {at : ℕ} {r : std.Result ℕ Uncopied} {new : List ℕ} (c : Copies (index_in known) store t old at r new) (h : at + tree_words ≤ length old) where
+module _ (f known : List ℕ) {t : ℕ} (i : IsType f t) {store old : List ℕ} {at : ℕ} {r : std.Result ℕ Uncopied} {new : List ℕ} (c : Copies known store t old at r new) (h : at + tree_words ≤ length old) where
   kept : take at new ≡ take at old
-  kept = ap (take at) c.is ∙ copied-kept store old at (omega arith) (remembered_of (index_in known) store t)
+  kept = ap (take at) c.is ∙ copied-kept store old at (omega arith) (remembered_of known store t)
 
   inside : (M : Memo) → Memory f known store M → t < length M
   inside M m = omega (arith, m.all)

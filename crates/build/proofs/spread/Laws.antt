@@ -175,7 +175,7 @@ unfolding array_tree
 array-gives at ts e fin x = record { says = ap Ok (sym x.long); stands = rw x.long x }
 
 -- as many words as nodes, so many times
-product-comm : (n k : ℕ) → n * 6 * k ≡ 6 * (k * n)
+pub product-comm : (n k : ℕ) → n * 6 * k ≡ 6 * (k * n)
 product-comm n k = let a : n * 6 * k ≡ n * (6 * k) = mul_assoc n 6 k in let b : n * (6 * k) ≡ 6 * k * n = mul_comm n (6 * k) in a ∙ b ∙ mul_assoc 6 k n
 
 module _ {p end : ℕ} {old : List ℕ} (whole : WholeAt old p end) {count size : ℕ} {mid : List ℕ} (y : Flattens p end old count size mid)

@@ -1,20 +1,22 @@
 -- A law for each return of convert.rt. Assumes nothing.
-use mathlib.Core.Path.{◌≡◌, refl, sym, ◌∙◌}
+use mathlib.Core.Path.{◌≡◌, refl, ap, sym, ◌∙◌}
 use mathlib.Core.Bool.{Bool, true, false}
-use mathlib.Core.List.{List, ◌++◌}
-use Prim.Native.Nat.{ℕ, ◌≤◌, ◌<◌}
+use mathlib.Core.List.{List}
+use Prim.Native.Nat.{ℕ, ◌+◌}
 use native.Mathlib.Omega.{arith}
-use lib.Dec.{eqb, ltb}
-use lib.ListN.{length, drop}
+use lib.Dec.{eqb, leb, ltb}
+use lib.ListN.{length}
+use lib.Seq.{paste}
+use denote.Ref.{Bor}
 use borrow.Author.Rules.{rules}
-use borrow.Author.Tests.{lt-ltb, le-ltb, le-leb, lt-leb, ne_eqb, eq-eqb, eqb-true, ltb-true}
+use borrow.Author.Tests.{ne_eqb, eq-eqb, eqb-true, ltb-true}
 use Rattle.definition.specs.declared.records.Shape.{Shape}
 use Rattle.definition.specs.declared.records.Constant.{Constant}
 use Rattle.definition.specs.declared.answers.Refusal.{Refusal}
 use Rattle.definition.specs.declared.answers.Refusal.TheVariants as refusal
 use Rattle.definition.specs.Layout.{count, shapes, constants}
 use Rattle.definition.specs.Records.{shape_at, constant_at}
-use Rattle.definition.specs.Base.{choose}
+use Rattle.definition.specs.Base.{pick, choose}
 use Rattle.definition.specs.Accept.{verdict, need}
 use Rattle.definition.specs.Tree as tree-definition
 use Rattle.definition.specs.Tree.{flatten, flatten_all, nodes, nodes_in, constant_tree}
@@ -23,10 +25,16 @@ use Rattle.definition.specs.Scalar.{as_tree, constant_value}
 use Rattle.definition.specs.Answers.{Says, number_of, tree_says, over, tree_answer, tree_out}
 use Rattle.laws.specs.Cases.{never, both}
 use Rattle.laws.specs.Accepted.{accepted}
-use Rattle.acceptance.proofs.Wanting.{at-least-one, file-passes, file-refuses}
+use Rattle.records.specs.declared.file.File.{File}
+use Rattle.acceptance.specs.Admitted.{refusal_in, Admits}
+use Rattle.acceptance.proofs.Accepting.{holds, fails, refused}
+use Rattle.acceptance.proofs.Wanting.{at-least-one}
+use Rattle.tree.specs.Words.{Wrote, WroteNode}
+use Rattle.tree.proofs.Standing.{wrote-so-is}
 use Rattle.places.specs.Inside.{ShapeIn, shape-in}
 use Rattle.conversion.specs.Convert.{there, Both, convert_refused, value_at, convert_answer, convert_out}
-use Rattle.std.specs.Prelude.{None, Option, Some, Ok, Err}
+use Rattle.std.specs.Option.{ok_or}
+use Rattle.std.specs.Prelude.{None, Option, Some, Result, Ok, Err, MatchResult}
 
 -- ---- `value_at`
 pub shape-at : {f : List ℕ} {shape constant : ℕ} {s : Shape} → s ≡ shape_at f shape → Both f shape constant → ShapeIn f s
@@ -38,34 +46,27 @@ value-is f shape constant is h = rw (← is) h
 
 -- ---- `there`
 module _ (f : List ℕ) (shape constant : ℕ) {n : ℕ} (is : n ≡ count f shapes) where
-  pub both-there : {m : ℕ} → shape < n → m ≡ count f constants → ltb constant m ≡ there f shape constant
-  unfolding there
-  both-there l e = rw (← is, lt-ltb _ _ l, e)
+  pub no-shape : {r : Refusal} → ◌≡◌ {A = Result (Unit {0}) Refusal} (Err r) (pick (ltb shape n) (Ok tt) (Err refusal.Missing)) → {w : Result (Unit {0}) Refusal} → w ≡ Err r
+      → refusal_in w ≡ need (there f shape constant) 7 (λ v. 0)
+  unfolding there number_of
+  no-shape {r} e q = rw (q, refused (ltb shape n) r refusal.Missing e, ← is, fails (ltb shape n) r refusal.Missing e)
 
-  pub not_there : n ≤ shape → ltb shape n ≡ there f shape constant
-  unfolding there
-  not_there l = rw (← is, le-ltb _ _ l)
+  pub both-there : {u : Unit {0}} → ◌≡◌ {A = Result (Unit {0}) Refusal} (Ok u) (pick (ltb shape n) (Ok tt) (Err refusal.Missing)) → {m : ℕ} → m ≡ count f constants
+      → {w : Result (Unit {0}) Refusal} → w ≡ pick (ltb constant m) (Ok tt) (Err refusal.Missing) → refusal_in w ≡ need (there f shape constant) 7 (λ v. 0)
+  unfolding there number_of
+  both-there e {m} k q = rw (q, ← is, holds (ltb shape n) refusal.Missing e, ← k) (go (ltb constant m))
+    where
+      go : (t : Bool) → refusal_in (pick t (Ok tt) (Err refusal.Missing)) ≡ need t 7 (λ v. 0)
+      go true = refl
+      go false = refl
 
 -- ---- `asked`
-abbrev next : List ℕ → ℕ → ℕ → Unit {0} → ℕ
-next f shape constant u = need (there f shape constant) 7 λ v. 0
-
-module _ (f : List ℕ) (shape constant : ℕ) where
-  pub refused-file : (r : Refusal) → number_of r ≡ verdict f → number_of r ≡ convert_refused f shape constant
-  unfolding convert_refused
-  refused-file r e = file-refuses f (next f shape constant) r e
-
-  module _ {g : List ℕ} (q : g ≡ f) (e : verdict f ≡ 0) {t : Bool} (h : t ≡ there g shape constant) where
-    here : t ≡ there f shape constant
-    here = rw (← q) h
-
-    pub refused-nothing : t ≡ true → convert_refused f shape constant ≡ 0
-    unfolding convert_refused
-    refused-nothing b = rw (file-passes f (next f shape constant) e, ← here, b)
-
-    pub refused-missing : t ≡ false → number_of refusal.Missing ≡ convert_refused f shape constant
-    unfolding convert_refused number_of
-    refused-missing b = rw (file-passes f (next f shape constant) e, ← here, b)
+pub asked-by : (f : List ℕ) (shape constant : ℕ) {answers : Bor File → Result (Unit {0}) Refusal → Type 0} {r : Result File Refusal} → Admits answers f r
+    → ((file : Bor File) (a : Result (Unit {0}) Refusal) → answers file a → refusal_in a ≡ need (there file.now.source shape constant) 7 (λ v. 0))
+    → MatchResult r (λ file. (file.source ≡ f) × (convert_refused f shape constant ≡ 0)) (λ refusal. number_of refusal ≡ convert_refused f shape constant)
+unfolding convert_refused
+asked-by f shape constant x h =
+    x.is (λ u. need (there f shape constant) 7 (λ v. 0)) (λ file a q p. h file a p ∙ ap (λ (l : List ℕ). need (there l shape constant) 7 (λ v. 0)) q)
 
 pub both_so : (f : List ℕ) (shape constant : ℕ) → convert_refused f shape constant ≡ 0 → Both f shape constant
 unfolding convert_refused there
@@ -83,22 +84,49 @@ both_so f shape constant z = go (eqb (verdict f) 0) refl (there f shape constant
     go false p b q r = never (sym p ∙ eq-eqb (verdict f) 0 r)
 
 -- ---- `put`
-module _ (c : Constant) (out : List ℕ) where
-  pub no-room-says : length out < 6 → tree_says (Err refusal.Short) ≡ tree_answer (ok (constant_tree c)) (length out)
-  unfolding number_of tree_says tree_answer constant_tree tree-definition.leaf nodes nodes_in
-  no-room-says l = rw (lt-leb 6 (length out) l)
+module _ {w : Option ℕ} {a : Result ℕ Refusal} (k : a ≡ ok_or w refusal.Short) where
+  some-end : {n : ℕ} → a ≡ Ok n → w ≡ Some n
+  some-end {n} i = go w k
+    where
+      go : (w : Option ℕ) → a ≡ ok_or w refusal.Short → w ≡ Some n
+      go (Some m) e = let z : m ≡ n = cc in ap Some z
+      go None e = let z : ◌≡◌ {A = ℕ} 0 1 = cc in absurd (omega arith)
 
-  pub no-room-keeps : length out < 6 → out ≡ over (flatten (constant_tree c)) out
-  unfolding over flatten flatten_all constant_tree tree-definition.leaf
-  no-room-keeps l = rw (lt-leb 6 (length out) l)
+  no_end : {y : Refusal} → a ≡ Err y → (w ≡ None) × (y ≡ refusal.Short)
+  no_end {y} i = go w k
+    where
+      go : (w : Option ℕ) → a ≡ ok_or w refusal.Short → (w ≡ None) × (y ≡ refusal.Short)
+      go (Some m) e = let z : ◌≡◌ {A = ℕ} 0 1 = cc in absurd (omega arith)
+      go None e = let z : y ≡ refusal.Short = cc in (refl, z)
 
-  pub room_says : 6 ≤ length out → tree_says (Ok (Some 1)) ≡ tree_answer (ok (constant_tree c)) (length out)
-  unfolding tree_says tree_answer constant_tree tree-definition.leaf nodes nodes_in
-  room_says l = rw (le-leb 6 (length out) l)
+none-wrote : (test : Bool) {old : List ℕ} {at : ℕ} {src : List ℕ} {n : ℕ} {w : Option ℕ} {new : List ℕ} → Wrote test old at src n w new → w ≡ None → (test ≡ false) × (new ≡ old)
+none-wrote true q i = let z = q.says in cc
+none-wrote false q i = (refl, q.is)
 
-  pub room-wrote : 6 ≤ length out → {words part : List ℕ} → words ≡ flatten (constant_tree c) → part ≡ words → part ++ drop 6 out ≡ over (flatten (constant_tree c)) out
-  unfolding over flatten flatten_all constant_tree tree-definition.leaf
-  room-wrote l e k = rw (k, e, le-leb 6 (length out) l)
+module _ (c : Constant) {out : List ℕ} {w : Option ℕ} {new : List ℕ} (x : WroteNode out 0 (flatten (constant_tree c)) w new) {a : Result ℕ Refusal} (k : a ≡ ok_or w refusal.Short) where
+  module _ {y : Refusal} (i : a ≡ Err y) where
+    full : (leb 6 (length out) ≡ false) × (new ≡ out)
+    full = none-wrote (leb 6 (length out)) x (no_end k i).0
+
+    pub full-says : {r : Result (Option ℕ) Refusal} → r ≡ Err y → tree_says r ≡ tree_answer (ok (constant_tree c)) (length out)
+    unfolding number_of tree_says tree_answer constant_tree tree-definition.leaf nodes nodes_in
+    full-says q = rw (q, (no_end k i).1, full.0)
+
+    pub full-keeps : new ≡ over (flatten (constant_tree c)) out
+    unfolding over flatten flatten_all constant_tree tree-definition.leaf
+    full-keeps = rw full.0 full.1
+
+  module _ {n : ℕ} (i : a ≡ Ok n) where
+    written : (leb 6 (length out) ≡ true) × (n ≡ 0 + 6) × (new ≡ paste out 0 (flatten (constant_tree c)) 6)
+    written = wrote-so-is (leb 6 (length out)) x (some-end k i)
+
+    pub put-says : tree_says (Ok (Some 1)) ≡ tree_answer (ok (constant_tree c)) (length out)
+    unfolding tree_says tree_answer constant_tree tree-definition.leaf nodes nodes_in
+    put-says = rw written.0
+
+    pub put-wrote : new ≡ over (flatten (constant_tree c)) out
+    unfolding over flatten flatten_all constant_tree tree-definition.leaf
+    put-wrote = rw written.0 written.2
 
 -- ---- `convert`
 module _ (f : List ℕ) (shape constant : ℕ) where
@@ -135,4 +163,4 @@ module _ (f : List ℕ) (shape constant : ℕ) where
       unfolding convert_out as_tree tree_out
       value-wrote out k = rw (z, value-of, h) k
 
-pub ruleset conversions = (rules, shape-at, value-is, both_so, both-there, not_there, refused-file, refused-nothing, refused-missing, no-room-says, no-room-keeps, room_says, room-wrote, refusal-says, refusal-keeps, none-says, none-keeps, value-says, value-wrote)
+pub ruleset conversions = (rules, shape-at, value-is, both_so, no-shape, both-there, asked-by, full-says, full-keeps, put-says, put-wrote, refusal-says, refusal-keeps, none-says, none-keeps, value-says, value-wrote)

@@ -5,39 +5,45 @@ use mathlib.Core.Logic.{◌⊎◌, inl, inr}
 use mathlib.Core.List.{List}
 use Prim.Native.Nat.{ℕ, suc, ◌+◌, ◌-◌, ◌*◌, ◌≤◌, ◌<◌}
 use native.Mathlib.Omega.{arith}
+use lib.ListN.{length}
 use borrow.Author.Rules.{rules}
 use borrow.Author.Tests.{ne_eqb}
+use Rattle.definition.specs.declared.records.Constant.{Constant}
 use Rattle.definition.specs.declared.records.Initializer.{Initializer}
 use Rattle.definition.specs.declared.records.Initializer.TheVariants as init
 use Rattle.definition.specs.declared.records.Place.{Place}
 use Rattle.definition.specs.Base.{on_link}
-use Rattle.definition.specs.Layout.{word, count, initializers, constants}
-use Rattle.definition.specs.Records.{initializer_at, named_type}
+use Rattle.definition.specs.Layout.{word, count, initializers}
+use Rattle.definition.specs.Records.{initializer_at, constant_at, named_type}
+use Rattle.definition.specs.Scalar.{as_tree, constant_value}
 use Rattle.definition.specs.Tree.{flatten}
-use Rattle.definition.specs.Ask.{ok, none, large, Outcome, Ask, give, nothing}
+use Rattle.definition.specs.Ask.{ok, none, large, Outcome, Ask, done, result_of, give, nothing, type_default}
 use Rattle.definition.specs.Resolve.{Memo}
 use Rattle.definition.specs.Peek.{Peek, got, wants, peek}
-use Rattle.definition.specs.Parts.{if_stated}
+use Rattle.definition.specs.Parts.{if_stated, name_default}
 use Rattle.definition.specs.Defaults as Defaults
-use Rattle.definition.specs.Starting.{constant_as, spec_default, over_base, subrange_default}
-use Rattle.laws.specs.Links.{Link, Naming}
+use Rattle.definition.specs.Starting.{alias_default_by, constant_as, implicit, spec_default, over_base, subrange_default}
+use Rattle.laws.specs.Links.{Link, Naming, link-to}
 use Rattle.laws.specs.Used.{IsType}
 use Rattle.laws.specs.Peeking.{on_got, peek-bind}
 use Rattle.laws.specs.Steps.{peek-done, peek-give, peek-nothing}
 use Rattle.places.proofs.field.Laws.{linked-type}
-use Rattle.std.specs.Prelude.{Err}
+use Rattle.std.specs.Prelude.{Err, None, Ok, Option, Some}
+use Rattle.std.specs.Prelude as std
+use Rattle.std.specs.Option.{SomeIff, ok_or}
+use Rattle.build.specs.declared.built.Unbuilt.{Unbuilt}
 use Rattle.build.specs.declared.built.Unbuilt.TheVariants as unbuilt
 use Rattle.build.specs.Built.{Built, Gives, Builds}
+use Rattle.build.specs.Leaves.{PutsLeaf}
 use Rattle.build.specs.Parts.{implicit_levels}
-use Rattle.initial.specs.declared.values.Stated.TheVariants as stated
-use Rattle.initial.specs.Stated.{Lays, AliasIn, SpecIn, ValueIn, StartIn, Over}
+use Rattle.build.proofs.Peeks.{some-of, none-of, link-some, link-none}
+use Rattle.build.proofs.defaults.Laws.{same, tree-room}
+use Rattle.gather.proofs.Single.{place-shape}
+use Rattle.initial.specs.Stated.{alias_default, simple_default, base_default, members_over, AliasIn, SpecIn, StartIn, Over}
 use Rattle.initial.specs.Rooms.{entry_levels, alias_levels_by, alias_levels, simple_levels}
-use Rattle.initial.proofs.stated.Laws.{stated-in, implicit-some, implicit-tree, stated}
+use Rattle.initial.proofs.Alike.{no_value_lem}
+use Rattle.initial.proofs.stated.Laws.{implicit-some, constant-in, stated, unstated}
 use Rattle.initial.proofs.start.Laws.{max-left, max-right, simple-value, string-value, array-in, members-in}
-
--- ---- a link that leads somewhere
-pub linked-to : {A : Type 0} (l : ℕ) (other : A) (go : ℕ → A) → (l ≡ 0 → ⊥) → on_link l other go ≡ go (l - 1)
-linked-to l other go n = let z : l ≡ suc (l - 1) = omega (arith, n) in ap (λ (i : ℕ). on_link i other go) z
 
 -- ---- room
 module _ (f : List ℕ) (place : Place) (at n : ℕ) where
@@ -65,8 +71,8 @@ module _ (f : List ℕ) (place : Place) (at n : ℕ) where
     unfolding alias_levels
     implicit-room = implicit-by (initializer_at f i) h
 
-    pub tree-room : at + 12288 ≤ n
-    tree-room = implicit-tree f place at n implicit-room
+    pub alias-tree : at + 12288 ≤ n
+    alias-tree = tree-room f place at n implicit-room
 
     module _ {v : Initializer} (q : v ≡ initializer_at f i) {first many : ℕ} where
       pub array-room : v ≡ init.Array first many → at + entry_levels f first many place * 12288 ≤ n
@@ -77,10 +83,6 @@ module _ (f : List ℕ) (place : Place) (at n : ℕ) where
       unfolding alias_levels alias_levels_by
       members-room (inl e) = max-right at (implicit_levels f place) (entry_levels f first many place) n (rw (← q, e) at h)
       members-room (inr e) = max-right at (implicit_levels f place) (entry_levels f first many place) n (rw (← q, e) at h)
-
--- ---- a subrange's start value
-pub start-inside : {f : List ℕ} (start : ℕ) → ValueIn f stated.Constant start → (start ≡ 0 → ⊥) → start - 1 < count f constants
-start-inside start i n = (stated-in stated.Constant start i n).constant
 
 -- ---- names
 module _ {f : List ℕ} {i : ℕ} (l : AliasIn f i) where
@@ -105,6 +107,10 @@ module _ {f : List ℕ} {i : ℕ} (l : AliasIn f i) where
       members-linked (inr e) = linked e tt
 
 -- ---- `over_base`
+own-is : (f : List ℕ) (place : Place) (c : ℕ) (v : Option Constant) → as_tree (result_of v) ≡ constant_value f place.shape (constant_at f c) → constant_as f place c ≡ done (as_tree (result_of v))
+unfolding Defaults.constant_as
+own-is f place c v h = ap done (sym h)
+
 module _ {f : List ℕ} {place : Place} {start at : ℕ} {old : List ℕ} where
   pub over_none : (base : Built) → start ≡ 0 → Over f place start at base old base old
   over_none base e = record { gives = go; kept = refl }
@@ -114,6 +120,10 @@ module _ {f : List ℕ} {place : Place} {start at : ℕ} {old : List ℕ} where
       go M (got none) h = rw (e, peek-nothing M) h
       go M (got large) h = let o : Outcome = large in rw (peek-done M o) h
       go M (wants d) h = h
+
+  pub over-unstated : (base : Built) (o : Option ℕ) → SomeIff o (1 ≤ start) (start - 1) → ((c : ℕ) → o ≡ Some c → ⊥) → Over f place start at base old base old
+  over-unstated base None q n = over_none base (link-none {o = None} q refl)
+  over-unstated base (Some c) q n = absurd (n c refl)
 
   pub over-large : (base : Built) → base ≡ Err unbuilt.TooLarge → Over f place start at base old (Err unbuilt.TooLarge) old
   over-large base e = record { gives = go; kept = refl }
@@ -133,23 +143,24 @@ module _ {f : List ℕ} {place : Place} {start at : ℕ} {old : List ℕ} where
       go M (got large) h = let s = h.says in let z : ◌≡◌ {A = ℕ} 0 1 = cc in absurd (omega arith)
       go M (wants c) h = record { says = sym e ∙ h.says; stands = tt }
 
-  pub over-own : (base : Built) → (start ≡ 0 → ⊥) → (base ≡ Err unbuilt.TooLarge → ⊥) → ((d : ℕ) → base ≡ Err (unbuilt.Wanted d) → ⊥) → {r : Built} {new : List ℕ} → Lays (constant_as f place (start - 1)) at old r new
-      → Over f place start at base old r new
-  over-own base n l w {r} {new} x = record { gives = go; kept = x.kept }
-    where
-      own : (M : Memo) (other : Unit {0} → Ask Outcome) → Gives flatten (peek M (if_stated start other (constant_as f place))) at r new
-      own M other = rw (stated start other (constant_as f place) n) (x.gives M)
+  module _ (base : Built) {o : Option ℕ} (q : SomeIff o (1 ≤ start) (start - 1)) {c : ℕ} (e : o ≡ Some c) (l : base ≡ Err unbuilt.TooLarge → ⊥) (w : (d : ℕ) → base ≡ Err (unbuilt.Wanted d) → ⊥)
+      {v : Option Constant} (h : as_tree (result_of v) ≡ constant_value f place.shape (constant_at f c)) (b : at + 6 ≤ length old) {r : Built} {new : List ℕ} (x : PutsLeaf v at old r new) where
+    pub over-own : Over f place start at base old r new
+    over-own = record { gives = go; kept = x.kept }
+      where
+        own : (M : Memo) (other : Unit {0} → Ask Outcome) → Gives flatten (peek M (if_stated start other (constant_as f place))) at r new
+        own M other = rw (link-some q e, own-is f place c v h, peek-done M (as_tree (result_of v))) (x.gives b)
 
-      go : (M : Memo) (p : Peek Outcome) → Gives flatten p at base old → Gives flatten (on_got p (λ o. peek M (over_base f place start o))) at r new
-      go M (got (ok t)) h = own M (λ u. give t)
-      go M (got none) h = own M (λ u. nothing)
-      go M (got large) h = absurd (l h.says)
-      go M (wants d) h = absurd (w d h.says)
+        go : (M : Memo) (p : Peek Outcome) → Gives flatten p at base old → Gives flatten (on_got p (λ o. peek M (over_base f place start o))) at r new
+        go M (got (ok t)) y = own M (λ u. give t)
+        go M (got none) y = own M (λ u. nothing)
+        go M (got large) y = absurd (l y.says)
+        go M (wants d) y = absurd (w d y.says)
 
 -- ---- `subrange_default`
 module _ (f : List ℕ) (place : Place) (name start : ℕ) where
-  pub subrange-over : {known store : List ℕ} {at : ℕ} {old : List ℕ} {base : Built} {mid : List ℕ} {r : Built} {new : List ℕ} → (name ≡ 0 → ⊥)
-      → Builds f known store flatten (spec_default f place name) at old base mid → Over f place start at base mid r new → Builds f known store flatten (subrange_default f place name start) at old r new
+  pub subrange-over : {index store : List ℕ} {at : ℕ} {old : List ℕ} {base : Built} {mid : List ℕ} {r : Built} {new : List ℕ} → (name ≡ 0 → ⊥)
+      → Builds f index store flatten (spec_default f place name) at old base mid → Over f place start at base mid r new → Builds f index store flatten (subrange_default f place name start) at old r new
   unfolding Defaults.subrange_default
   subrange-over n x y =
       record {
@@ -157,23 +168,66 @@ module _ (f : List ℕ) (place : Place) (name start : ℕ) where
         kept = y.kept ∙ x.kept;
       }
 
+-- ---- `alias_default`
+module _ (f : List ℕ) (place : Place) (i : ℕ) {v : Initializer} (q : v ≡ initializer_at f i) where
+  is-by : {u : Initializer} → v ≡ u → alias_default f i place ≡ alias_default_by f place i u
+  unfolding alias_default
+  is-by e = ap (alias_default_by f place i) (sym q ∙ e)
+
+  module _ {name : ℕ} (w : name ≡ word f initializers i 1) {index store : List ℕ} {at : ℕ} {old : List ℕ} {r : Built} {new : List ℕ} where
+    pub alias-simple : {value : ℕ} → v ≡ init.Simple value → Builds f index store flatten (if_stated value (λ u. name_default name) (constant_as f place)) at old r new → Builds f index store flatten (alias_default f i place) at old r new
+    unfolding Defaults.alias_default_by named_type
+    alias-simple {value} e x = same _ _ (is-by e) (rw w at x)
+
+    pub alias-members : {first many : ℕ} → (v ≡ init.FunctionBlock first many) ⊎ (v ≡ init.Structure first many) → Builds f index store flatten (members_over f place first many (name_default name)) at old r new
+        → Builds f index store flatten (alias_default f i place) at old r new
+    unfolding Defaults.alias_default_by named_type members_over
+    alias-members (inl e) x = same _ _ (is-by e) (rw w at x)
+    alias-members (inr e) x = same _ _ (is-by e) (rw w at x)
+
+-- ---- `base_default`
+module _ (f : List ℕ) (place : Place) (base : ℕ) {o : Option ℕ} (q : SomeIff o (1 ≤ base) (base - 1)) where
+  pub base-type : {t : ℕ} → o ≡ Some t → Link (IsType f) base → IsType f t
+  base-type {t} e l = link-to (IsType f) base t (link-some q e) l
+
+  module _ {index store : List ℕ} {at : ℕ} {old : List ℕ} {r : Built} {new : List ℕ} where
+    pub base-typed : {t : ℕ} → o ≡ Some t → Builds f index store flatten (type_default t) at old r new → Builds f index store flatten (base_default f place base) at old r new
+    unfolding base_default
+    base-typed e x = stated base q (implicit f place) type_default e x
+
+    pub base-implicit : o ≡ None → Builds f index store flatten (implicit f place) at old r new → Builds f index store flatten (base_default f place base) at old r new
+    unfolding base_default
+    base-implicit e x = unstated base q (implicit f place) type_default e x
+
 -- ---- `simple_default`
-module _ (f : List ℕ) (place : Place) (start : ℕ) where
-  module _ (n : start ≡ 0 → ⊥) where
-    spent : start ≡ suc (start - 1)
-    spent = omega (arith, n)
+module _ (f : List ℕ) (place : Place) (start : ℕ) (o : Option ℕ) (q : SomeIff o (1 ≤ start) (start - 1)) {a : std.Result ℕ Unbuilt} (k : a ≡ ok_or o unbuilt.None) where
+  module _ {index store : List ℕ} {at : ℕ} {old : List ℕ} {r : Built} where
+    pub simple-none : {u : Unbuilt} → a ≡ Err u → r ≡ Err u → Builds f index store flatten (simple_default f place start) at old r old
+    unfolding simple_default
+    simple-none i e = let n = none-of k i e in rw n.1 (no_value_lem (simple_default f place start) (ap (λ (l : ℕ). on_link l nothing (λ i. alias_default f i place)) (link-none q n.0)))
 
-    pub simple-room : (at k : ℕ) → at + simple_levels f start place * 12288 ≤ k → at + alias_levels f (start - 1) place * 12288 ≤ k
+  module _ {i : ℕ} (e : a ≡ Ok i) where
+    spent : start ≡ suc i
+    spent = link-some q (some-of k e)
+
+    pub simple-room : (at n : ℕ) → at + simple_levels f start place * 12288 ≤ n → at + alias_levels f i place * 12288 ≤ n
     unfolding simple_levels
-    simple-room at k h =
-        let e : on_link start 1 (λ i. alias_levels f i place) ≡ alias_levels f (start - 1) place = ap (λ (s : ℕ). on_link s 1 (λ i. alias_levels f i place)) spent in
-        rw e at h
+    simple-room at n h =
+        let s : on_link start 1 (λ i. alias_levels f i place) ≡ alias_levels f i place = ap (λ (l : ℕ). on_link l 1 (λ i. alias_levels f i place)) spent in
+        rw s at h
 
-    pub simple-in : StartIn f start → AliasIn f (start - 1)
-    simple-in s = s.alias n
+    pub simple-in : StartIn f start → AliasIn f i
+    simple-in s =
+        let n : start ≡ 0 → ⊥ = λ z. omega (arith, z, spent) in
+        let d : start - 1 ≡ i = omega (arith, spent) in
+        rw d at s.alias n
+
+    pub simple-some : {index store : List ℕ} {at : ℕ} {old : List ℕ} {r : Built} {new : List ℕ} → Builds f index store flatten (alias_default f i place) at old r new → Builds f index store flatten (simple_default f place start) at old r new
+    unfolding simple_default
+    simple-some x = same (alias_default f i place) (simple_default f place start) (ap (λ (l : ℕ). on_link l nothing (λ i. alias_default f i place)) spent) x
 
 pub ruleset laws =
-    (rules, opened, peek-nothing, stated, linked-to, linked-type, start-inside, implicit-some, implicit-tree, alias-inside, alias-spec, over_none, over-large, over-wanted, over-own, simple-in)
+    (rules, opened, peek-nothing, place-shape, constant-in, linked-type, implicit-some, tree-room, alias-inside, alias-spec, over-large, over-wanted)
 
 pub ruleset asked =
-    (rules, linked-type, start-inside, simple-value, string-value, implicit-some, implicit-tree, implicit-room, tree-room, array-room, members-room, array-in, members-in, alias-inside, alias-spec, simple-linked, members-linked, subrange-over, over_none, over-large, simple-room, simple-in)
+    (rules, place-shape, constant-in, linked-type, simple-value, string-value, implicit-some, tree-room, implicit-room, alias-tree, array-room, members-room, array-in, members-in, alias-inside, alias-spec, simple-linked, members-linked, subrange-over)

@@ -3,14 +3,16 @@ use borrow.Enum.Refused.{opened}
 use mathlib.Core.Path.{◌≡◌, refl, ap, sym, subst, ◌∙◌, fun_ext}
 use mathlib.Core.Bool.{Bool, true, false}
 use mathlib.Core.List.{List, [], ◌∷◌}
-use Prim.Native.Nat.{ℕ, zero, suc, ◌+◌, ◌-◌, ◌*◌, ◌^◌, ◌≤◌, ◌<◌}
+use Prim.Native.Nat.{ℕ, zero, suc, ◌+◌, ◌-◌, ◌*◌, ◌≤◌, ◌<◌}
 use native.Mathlib.Omega.{arith}
 use lib.Dec.{eqb, lit<}
+use lib.ListN.{length}
 use borrow.Author.Rules.{rules}
 use borrow.Author.Tests.{ne_eqb}
 use types.Run.{OneOf, miss}
 use denote.Enum.Declared.{tag_of}
 use Rattle.definition.specs.contracts.records.Declaration.{the_type}
+use Rattle.definition.specs.declared.records.Constant.{Constant}
 use Rattle.definition.specs.declared.records.Declaration.{Declaration}
 use Rattle.definition.specs.declared.records.Declaration.TheVariants as decl
 use Rattle.definition.specs.declared.records.Place.{Place}
@@ -18,24 +20,28 @@ use Rattle.definition.specs.Base.{choose, inline}
 use Rattle.definition.specs.Layout as Layout
 use Rattle.definition.specs.Layout.{word, count, elements, variables, most_records, limits_of_records}
 use Rattle.definition.specs.Records.{declaration_at, named_type}
-use Rattle.definition.specs.Tree.{Tree, Trees}
+use Rattle.definition.specs.Scalar.{as_tree}
+use Rattle.definition.specs.Tree.{Tree, Trees, constant_tree, null_tree, flatten}
 use Rattle.definition.specs.Ask.{Result, Ask, ◌>>=◌, bind, nothing, and_more}
 use Rattle.definition.specs.Places.{place_of}
 use Rattle.definition.specs.Uses.{named_use, declaration_uses}
 use Rattle.definition.specs.Parts.{structured, field, is_instance}
 use Rattle.definition.specs.Defaults as Defaults
-use Rattle.definition.specs.Starting.{declaration, variable_field, elements_from, instance_from}
-use Rattle.laws.specs.Steps.{peek-nothing}
-use Rattle.laws.specs.Accepted.{Accepted, count_most, few-types, type-points, link-in}
+use Rattle.definition.specs.Starting.{body_by, declaration, variable_field, elements_from, instance_from}
+use Rattle.laws.specs.Steps.{peek-give, peek-nothing}
+use Rattle.laws.specs.Accepted.{Accepted, count_most, type-points, link-in}
 use Rattle.laws.specs.Every.{Each}
 use Rattle.laws.specs.Links.{Link, each-name, initializer-apart, uses-apart}
 use Rattle.laws.specs.Used.{IsType, initializer-inside, uses-inside, start-inside, leads-inside}
 use Rattle.laws.specs.Pointed.{DeclarationPointed, declaration-pointed}
 use Rattle.places.specs.Inside.{PlaceIn, of-in}
+use Rattle.places.proofs.block.Laws.{type-fits}
+use Rattle.std.specs.Prelude.{Some}
+use Rattle.build.specs.Built.{Built, Builds}
+use Rattle.build.specs.Leaves.{PutsLeaf}
 use Rattle.build.specs.Parts.{implicit_levels}
 use Rattle.build.proofs.Levels.{levels-some}
-use Rattle.initial.specs.declared.values.Stated.TheVariants as stated
-use Rattle.initial.specs.Stated.{ArrayIn, AliasIn, SpecIn, ValueIn, StartIn, element_start, variable_start, part_start, is_part, part_ask, parts_from, PartsIn}
+use Rattle.initial.specs.Stated.{ArrayIn, AliasIn, SpecIn, ConstantIn, StartIn, element_start, variable_start, part_start, is_part, part_ask, parts_from, PartsIn}
 use Rattle.initial.specs.Rooms.{entry_levels, parts_levels, body_levels_by, body_levels}
 use Rattle.initial.proofs.start.Laws.{constants-in, max-left, max-right}
 
@@ -112,6 +118,12 @@ module _ (f : List ℕ) (place : Place) (at n : ℕ) {d : Declaration} (h : at +
   unfolding body_levels_by
   reference-room e = let k = at-view e in omega (arith, levels-some f place)
 
+-- ---- a reference starts as null
+module _ (f : List ℕ) (t : ℕ) (place : Place) {d : Declaration} {name : ℕ} (e : d ≡ decl.Reference name) {index store : List ℕ} {at : ℕ} {old : List ℕ} {r : Built} {new : List ℕ} where
+  pub body-null : {c : Constant} → constant_tree c ≡ null_tree → at + 6 ≤ length old → PutsLeaf (Some c) at old r new → Builds f index store flatten (body_by f t place d) at old r new
+  unfolding Defaults.body_by as_tree
+  body-null h b x = rw e (record { gives = λ M y. rw (peek-give M null_tree, ← h) (x.gives b); kept = x.kept })
+
 -- every declaration that leaves its type at the implicit default
 abbrev pub implicitly : List ℕ
 implicitly = 7 ∷ 8 ∷ []
@@ -150,10 +162,10 @@ module _ {f : List ℕ} (a : Accepted f) {t : ℕ} (l : IsType f t) where
     unfolding declaration_uses
     subrange-spec {name} e = spec-of name (uses-of e)
 
-    pub subrange-value : {name start : ℕ} → d ≡ decl.Subrange name start → ValueIn f stated.Constant start
+    pub subrange-value : {name start : ℕ} → d ≡ decl.Subrange name start → ConstantIn f start
     subrange-value {start = start} e = constants-in f 1 start (points e)
 
-    pub string-value : {start : ℕ} → d ≡ decl.String start → ValueIn f stated.Constant start
+    pub string-value : {start : ℕ} → d ≡ decl.String start → ConstantIn f start
     string-value {start} e = constants-in f 8 start (points e)
 
     module _ {name first many : ℕ} (e : d ≡ decl.Array name first many) where
@@ -199,9 +211,6 @@ module _ {f : List ℕ} (a : Accepted f) {t : ℕ} (l : IsType f t) where
             }
 
 -- ---- `body`
-pub type-fits : {f : List ℕ} → Accepted f → {t : ℕ} → IsType f t → t < 2 ^ 32 - 1
-type-fits {f} a l = omega (arith, few-types f a)
-
 module _ (f : List ℕ) (t : ℕ) {place : Place} (p : place ≡ place_of f t) where
   pub own-place : Accepted f → IsType f t → PlaceIn f place
   own-place a l = rw p (of-in f a t l)

@@ -29,6 +29,7 @@ use Rattle.tree.proofs.Standing.{headed-there}
 use Rattle.build.specs.declared.built.Unbuilt.{Unbuilt}
 use Rattle.build.specs.declared.built.Unbuilt.TheVariants as unbuilt
 use Rattle.build.specs.Built.{Built, Gives, Builds, Ready}
+use Rattle.gather.proofs.Copying.{value-structure}
 use Rattle.gather.specs.Answers as answers
 use Rattle.gather.specs.Room.{RoomThere, shapes_deep, rooms, Structure}
 use Rattle.entries.specs.Entries.{run_depth, FieldsThere, BuildsArray}
@@ -63,17 +64,13 @@ gives_of M m at (Err unbuilt.None) s h = rw h (record { says = refl; stands = tt
 gives_of M m at (Err unbuilt.TooLarge) s h = rw h (record { says = refl; stands = tt })
 gives_of M m at (Err (unbuilt.Wanted d)) s h = rw h (record { says = refl; stands = tt })
 
-value-structure : (t : Tree) → (head t).kind ≡ 14 → value_is t ≡ value.Structure (many (parts t))
-unfolding value_is head parts
-value-structure (node h ts) e = rw e
-
 no-structure : (t : Tree) {w : Value} → w ≡ value_is t → ((count : ℕ) → w ≡ value.Structure count → ⊥) → (head t).kind ≡ 14 → ⊥
 no-structure t k o c = o (many (parts t)) (k ∙ value-structure t c)
 
-module _ {f known store : List ℕ} (y : Ready f known store) (place : Place) (first many : ℕ) {old : List ℕ} (at : ℕ)
+module _ {f classes index store : List ℕ} (y : Ready f classes index store) (place : Place) (first many : ℕ) {old : List ℕ} (at : ℕ)
     (l : at + entry_levels f first many place * 12288 ≤ length old) where
   -- ---- `array_of`
-  pub array-given : {r : Built} {new : List ℕ} → BuildsArray f known store place first many old at r new → Builds f known store flatten (array_of f place first many) at old r new
+  pub array-given : {r : Built} {new : List ℕ} → BuildsArray f index store place first many old at r new → Builds f index store flatten (array_of f place first many) at old r new
   array-given {r} {new} w =
       let h = room-is f first many place at (length old) l in
       record {
@@ -83,7 +80,7 @@ module _ {f known store : List ℕ} (y : Ready f known store) (place : Place) (f
 
   -- ---- `apply_members`
   module _ {end : ℕ} (z : SmallAt old at end) {v : Option Value} (q : v ≡ value_at old at) where
-    no-members : ((t : Tree) → Stand old at (flatten t) end → Good t → (head t).kind ≡ 14 → ⊥) → Applies f known store place first many at end old (Err unbuilt.None) old
+    no-members : ((t : Tree) → Stand old at (flatten t) end → Good t → (head t).kind ≡ 14 → ⊥) → Applies f index store place first many at end old (Err unbuilt.None) old
     no-members h =
         record {
           gives = λ t s x M k.
@@ -93,10 +90,10 @@ module _ {f known store : List ℕ} (y : Ready f known store) (place : Place) (f
         }
 
     -- what `?` hands on
-    pub members-none : {a : std.Result Value Unbuilt} → a ≡ ok_or v unbuilt.None → {u : Unbuilt} → a ≡ Err u → {r : Built} → r ≡ Err u → Applies f known store place first many at end old r old
+    pub members-none : {a : std.Result Value Unbuilt} → a ≡ ok_or v unbuilt.None → {u : Unbuilt} → a ≡ Err u → {r : Built} → r ≡ Err u → Applies f index store place first many at end old r old
     members-none c {u} i {r} e = go v q (sym c ∙ i)
       where
-        go : (v : Option Value) → v ≡ value_at old at → ok_or v unbuilt.None ≡ Err u → Applies f known store place first many at end old r old
+        go : (v : Option Value) → v ≡ value_at old at → ok_or v unbuilt.None ≡ Err u → Applies f index store place first many at end old r old
         go None k j =
             let n : u ≡ unbuilt.None = cc in
             rw (e, n) (no-members (λ t x g c.
@@ -105,7 +102,7 @@ module _ {f known store : List ℕ} (y : Ready f known store) (place : Place) (f
             omega arith))
         go (Some w) k j = let n : ◌≡◌ {A = ℕ} 0 1 = cc in absurd (omega arith)
 
-    pub members-other : {w : Value} → v ≡ Some w → ((count : ℕ) → w ≡ value.Structure count → ⊥) → Applies f known store place first many at end old (Err unbuilt.None) old
+    pub members-other : {w : Value} → v ≡ Some w → ((count : ℕ) → w ≡ value.Structure count → ⊥) → Applies f index store place first many at end old (Err unbuilt.None) old
     members-other {w} i o =
         no-members (λ t x g c.
         let y : Some w ≡ Some (value_is t) = sym i ∙ q ∙ value_there old at t end g x in
@@ -130,7 +127,7 @@ module _ {f known store : List ℕ} (y : Ready f known store) (place : Place) (f
       pub members-there : FieldsThere mid at end (rooms f (run_depth f first many))
       members-there = record { fields = parts z.tree; there = headed-so z.tree z.small z.stands }
 
-      pub members-given : {r : Built} {new : List ℕ} → entering.Applies f known store first many place mid at end r new → Applies f known store place first many at end old r new
+      pub members-given : {r : Built} {new : List ℕ} → entering.Applies f index store first many place mid at end r new → Applies f index store place first many at end old r new
       members-given {r} {new} w =
           record {
             gives = λ t s d M k.

@@ -1,62 +1,81 @@
 -- A law for each return of declared.rt, and what its calls require. Assumes nothing.
-use mathlib.Core.Path.{◌≡◌, refl, subst, sym, ◌∙◌}
-use mathlib.Core.Bool.{Bool, true, false, ◌&&◌, ◌||◌, or-true}
-use mathlib.Core.List.{List}
-use Prim.Native.Nat.{ℕ, zero, suc, ◌+◌, ◌-◌, ◌^◌, ◌<◌, ◌≤◌}
+use mathlib.Core.Path.{◌≡◌, refl, ap, subst, sym, ◌∙◌}
+use mathlib.Core.Bool.{true, false, ◌&&◌, Bool}
+use mathlib.Core.List.{List, [], ◌∷◌}
+use Prim.Native.Nat.{ℕ, zero, suc, ◌+◌, ◌^◌, ◌<◌, ◌≤◌}
 use native.Mathlib.Omega.{arith}
 use native.Mathlib.Numerals.{add-one}
 use lib.Dec.{eqb, leb, lit<}
 use borrow.Author.Rules.{rules}
-use borrow.Author.Tests.{eq-eqb, ne_eqb, eqb-false, leb-true}
+use borrow.Author.Tests.{eq-eqb, ne_eqb, eqb-true, leb-true}
+use package.types.Run.{OneOf, miss}
+use denote.Enum.Declared.{tag_of}
+use Rattle.std.specs.Prelude.{Option}
+use Rattle.std.specs.Option.{option_or}
+use Rattle.definition.specs.contracts.records.Initializer.{the_type}
+use Rattle.definition.specs.declared.records.Declaration.{Declaration}
+use Rattle.definition.specs.declared.records.Declaration.TheVariants as decl
+use Rattle.definition.specs.declared.records.Initializer.{Initializer}
+use Rattle.definition.specs.declared.records.Initializer.TheVariants as init
 use Rattle.definition.specs.Base.{pick, on_link, inline}
 use Rattle.definition.specs.Layout.{word, count, types, elements, initializers, most_records, limits_of_records}
-use Rattle.definition.specs.Records.{alias_base, declaration_kind, initializer_kind, named_type}
+use Rattle.definition.specs.Records.{alias_base, declaration_kind, declaration_at, initializer_kind, initializer_at, named_type}
 use Rattle.definition.specs.Places.{first_named, simple_target, alias_target, field_declaration_up_to, declared_types, field_declaration, declared_type, declared_element}
 use Rattle.laws.specs.Links.{link-to}
-use Rattle.laws.specs.Accepted.{Accepted, count_most, few-types, element-points}
-use Rattle.laws.specs.Pointed.{DeclarationPointed, declaration-pointed, named-of}
-use Rattle.laws.specs.Nearby.{structure-at, alias-target}
+use Rattle.laws.specs.Accepted.{Accepted, count_most, few-types}
+use Rattle.laws.specs.Pointed.{DeclarationPointed, declaration-pointed}
+use Rattle.laws.specs.Nearby.{simple-at, structure-at, alias-target}
+use Rattle.laws.specs.Cases.{on-pick}
 use Rattle.laws.specs.Used.{IsType, leads-inside}
-use Rattle.records.proofs.Links.{a-link}
-use Rattle.places.proofs.Steps.{Comes, starts_at, goes_further, stops_at, ends_at}
+use Rattle.places.specs.Found.{declared_target, found_up_to, declared_structure, element_declaration}
+use Rattle.places.specs.Links.{link_of, link-of-or}
+use Rattle.places.proofs.Chains.{found-passes}
+use Rattle.places.proofs.Views.{simple-view, structure-view, kind-of-initializer, block-at, fields-at}
 
 -- ---- `simple_target`
-module _ (f : List ℕ) (i : ℕ) {kind : ℕ} (is : kind ≡ word f initializers i 0) where
-  pub target_below : kind < 7 → 0 ≡ simple_target f i
-  unfolding simple_target initializer_kind
-  target_below h = rw (← is, ne_eqb kind 7 (λ e. omega arith), ne_eqb kind 8 (λ e. omega arith))
+-- every initializer but a function block's and a structure's
+abbrev targetless : List ℕ
+targetless = 0 ∷ 1 ∷ 2 ∷ 3 ∷ 4 ∷ 5 ∷ 6 ∷ 9 ∷ 10 ∷ 11 ∷ 12 ∷ 13 ∷ 14 ∷ 15 ∷ []
 
-  pub target-above : 8 < kind → 0 ≡ simple_target f i
-  unfolding simple_target initializer_kind
-  target-above h = rw (← is, ne_eqb kind 7 (λ e. omega arith), ne_eqb kind 8 (λ e. omega arith))
+module _ (f : List ℕ) (i : ℕ) {v : Initializer} (is : v ≡ initializer_at f i) where
+  module _ (r : Option ℕ) (h : link_of r ≡ word f initializers i 1) where
+    pub block-target : {a b : ℕ} → v ≡ init.FunctionBlock a b → link_of r ≡ simple_target f i
+    unfolding simple_target named_type
+    block-target e = rw (kind-of-initializer f i (lit< tt) (ap (tag_of the_type) (sym is ∙ e))) h
 
-  pub target-named : 7 ≤ kind → kind ≤ 8 → {w : ℕ} → w ≡ word f initializers i 1 → w ≡ simple_target f i
-  unfolding simple_target initializer_kind named_type
-  target-named l h {w} e = rw (← is, go (eqb kind 7) refl) e
-    where
-      go : (b : Bool) → eqb kind 7 ≡ b → eqb kind 7 || eqb kind 8 ≡ true
-      go true q = rw q
-      go false q = rw (eq-eqb kind 8 (let n = eqb-false kind 7 q in omega (arith, n))) (or-true (eqb kind 7))
+    pub structure-target : {a b : ℕ} → v ≡ init.Structure a b → link_of r ≡ simple_target f i
+    unfolding simple_target named_type
+    structure-target e = rw (kind-of-initializer f i (lit< tt) (ap (tag_of the_type) (sym is ∙ e))) h
 
--- ---- `alias_target`
-module _ (f : List ℕ) (t : ℕ) {base : ℕ} (is : base ≡ word f types t 1) where
-  pub alias-base : (base ≡ 0 → ⊥) → base ≡ alias_target f t
-  unfolding alias_target alias_base
-  alias-base n = let q : base ≡ suc (base - 1) = omega (arith, n) in rw (← is, q)
+  pub no-target : OneOf targetless (tag_of the_type v) → 0 ≡ simple_target f i
+  unfolding simple_target
+  no-target h =
+      rw (
+        ne_eqb (initializer_kind f i) 7 (λ e. absurd (miss targetless 7 tt (rw (is, block-at f i e) at h))),
+        ne_eqb (initializer_kind f i) 8 (λ e. absurd (miss targetless 8 tt (rw (is, fields-at f i e) at h))),
+      )
 
-  module _ (z : base ≡ 0) {kind : ℕ} (k : kind ≡ word f types t 4) where
-    pub no-simple : (kind ≡ 1 → ⊥) → 0 ≡ alias_target f t
-    unfolding alias_target alias_base declaration_kind
-    no-simple n = rw (← is, z, ← k, ne_eqb kind 1 n)
+-- ---- `declared_target`, `alias_target`
+module _ (f : List ℕ) (t : ℕ) {d : Declaration} (is : d ≡ declaration_at f t) where
+  pub not-simple : ((i : ℕ) → d ≡ decl.Simple i → ⊥) → 0 ≡ declared_target f t
+  unfolding declared_target
+  not-simple n = rw (ne_eqb (declaration_kind f t) 1 (λ e. n _ (is ∙ simple-at f t (eq-eqb (declaration_kind f t) 1 e))))
 
-    module _ (o : kind ≡ 1) {start : ℕ} (e : start ≡ word f types t 6) where
-      pub no_start : start ≡ 0 → 0 ≡ alias_target f t
-      unfolding alias_target alias_base declaration_kind
-      no_start s = rw (← is, z, ← k, eq-eqb kind 1 o, ← e, s)
+  module _ {l : ℕ} (s : d ≡ decl.Simple l) where
+    simple-is : declared_target f t ≡ on_link l 0 (simple_target f)
+    unfolding declared_target
+    simple-is = let v = simple-view f t (sym is ∙ s) in rw (v.0, v.1)
 
-      pub simple-start : (start ≡ 0 → ⊥) → {r : ℕ} → r ≡ simple_target f (start - 1) → r ≡ alias_target f t
-      unfolding alias_target alias_base declaration_kind
-      simple-start n h = let q : start ≡ suc (start - 1) = omega (arith, n) in rw (← is, z, ← k, eq-eqb kind 1 o, ← e, q) h
+    pub no_start : 0 ≡ l → 0 ≡ declared_target f t
+    no_start z = rw (simple-is, ← z)
+
+    pub simple-start : {n : ℕ} → suc n ≡ l → (r : Option ℕ) → link_of r ≡ simple_target f n → link_of r ≡ declared_target f t
+    simple-start z r h = rw (simple-is, ← z) h
+
+pub alias-or : (f : List ℕ) (t : ℕ) (base other : Option ℕ) → link_of base ≡ word f types t 1 → link_of other ≡ declared_target f t
+    → {r : Option ℕ} → r ≡ option_or base other → link_of r ≡ alias_target f t
+unfolding alias_target alias_base declared_target
+alias-or f t base other e h q = ap link_of q ∙ link-of-or base other ∙ rw (e, h)
 
 -- ---- `declared_type`, `declared_element`
 module _ (f : List ℕ) (i : ℕ) {w : ℕ} (is : w ≡ word f initializers i 1) where
@@ -64,13 +83,13 @@ module _ (f : List ℕ) (i : ℕ) {w : ℕ} (is : w ≡ word f initializers i 1)
   unfolding declared_type named_type
   inline-type e = rw (← is, eq-eqb w inline e)
 
-  pub named-type : (w ≡ inline → ⊥) → w ≡ declared_type f i
+  pub named-type : (w ≡ inline → ⊥) → (r : Option ℕ) → link_of r ≡ w → link_of r ≡ declared_type f i
   unfolding declared_type named_type
-  named-type n = rw (← is, ne_eqb w inline n)
+  named-type n r e = rw (← is, ne_eqb w inline n) e
 
-  pub inline-element : w ≡ inline → {e : ℕ} → e ≡ word f initializers i 2 → e ≡ declared_element f i
+  pub inline-element : w ≡ inline → (r : Option ℕ) → link_of r ≡ word f initializers i 2 → link_of r ≡ declared_element f i
   unfolding declared_element named_type
-  inline-element q h = rw (← is, eq-eqb w inline q) h
+  inline-element q r h = rw (← is, eq-eqb w inline q) h
 
   pub named-element : (w ≡ inline → ⊥) → 0 ≡ declared_element f i
   unfolding declared_element named_type
@@ -78,85 +97,86 @@ module _ (f : List ℕ) (i : ℕ) {w : ℕ} (is : w ≡ word f initializers i 1)
 
 -- ---- `element_declaration`
 module _ (f : List ℕ) (t : ℕ) {first many : ℕ} (p : first ≡ word f types t 7) (q : many ≡ word f types t 8) where
-  elements-inside : Accepted f → IsType f t → declaration_kind f t ≡ 5 → first + many ≤ count f elements
-  elements-inside a h e =
-      rw (p, q) (subst (DeclarationPointed f) (structure-at f t (eq-eqb (declaration_kind f t) 5 e)) (declaration-pointed f a t h))
-
   pub elements-fit : Accepted f → IsType f t → declaration_kind f t ≡ 5 → first + many < 2 ^ 32
   unfolding most_records limits_of_records
-  elements-fit a h e = omega (arith, elements-inside a h e, count_most f a elements (lit< tt))
+  elements-fit a h e =
+      let i : first + many ≤ count f elements =
+      rw (p, q) (subst (DeclarationPointed f) (structure-at f t (eq-eqb (declaration_kind f t) 5 e)) (declaration-pointed f a t h))
+      in
+      omega (arith, i, count_most f a elements (lit< tt))
 
-  module _ (name : ℕ) {e : ℕ} (is : e ≡ first_named f elements name first many) where
-    pub no-element : e ≡ 0 → 0 ≡ on_link (first_named f elements name (word f types t 7) (word f types t 8)) 0 (λ e. suc (word f elements e 1))
-    no-element z = rw (← p, ← q, ← is, z)
+  module _ (name : ℕ) where
+    pub no-element : 0 ≡ first_named f elements name first many → 0 ≡ element_declaration f name t
+    unfolding element_declaration
+    no-element z = rw (← p, ← q, ← z)
 
-    module _ (n : e ≡ 0 → ⊥) {w : ℕ} (h : w ≡ word f elements (e - 1) 1) where
-      pub an-element : w + 1 ≡ on_link (first_named f elements name (word f types t 7) (word f types t 8)) 0 (λ e. suc (word f elements e 1))
-      an-element = rw (← p, ← q, ← is) (a-link 0 (λ e. suc (word f elements e 1)) e n (rw (add-one, h)))
+    pub an-element : {n w : ℕ} → suc n ≡ first_named f elements name first many → w ≡ word f elements n 1 → suc w ≡ element_declaration f name t
+    unfolding element_declaration
+    an-element z h = rw (← p, ← q, ← z, h)
 
-      pub element-fits : Accepted f → IsType f t → declaration_kind f t ≡ 5 → w + 1 < 2 ^ 32
-      unfolding most_records limits_of_records
-      element-fits a i d =
-          let l = elements-inside a i d in
-          let z : e ≡ suc (e - 1) = omega (arith, n) in
-          let g : e - 1 < count f elements = link-to (λ e. e < count f elements) (first_named f elements name first many) (e - 1) (sym is ∙ z)
-          (named-of f elements name (λ e. e < count f elements) first many (λ j m. omega arith)) in
-          omega (arith, h, element-points f a (e - 1) g, count_most f a initializers (lit< tt))
+-- ---- `is_structure`
+module _ (f : List ℕ) (t : ℕ) {d : Declaration} (is : d ≡ declaration_at f t) where
+  pub a-structure : {first many : ℕ} → d ≡ decl.Structure first many → true ≡ eqb (declaration_kind f t) 5
+  a-structure e = sym (eq-eqb (declaration_kind f t) 5 (structure-view f t (sym is ∙ e)).0)
+
+  pub no-structure : ((first many : ℕ) → d ≡ decl.Structure first many → ⊥) → false ≡ eqb (declaration_kind f t) 5
+  no-structure m = sym (ne_eqb (declaration_kind f t) 5 (λ e. m _ _ (is ∙ structure-at f t (eq-eqb (declaration_kind f t) 5 e))))
 
 -- ---- `field_declaration`
-one : (b : Bool) → pick b 1 0 ≤ 1
-one true = omega arith
-one false = omega arith
-
 declared-most : (f : List ℕ) (t : ℕ) → declared_types f t ≤ t
 unfolding declared_types
 declared-most f zero = omega arith
-declared-most f (suc t) = omega (arith, declared-most f t, one (leb 1 (declaration_kind f t) && leb (declaration_kind f t) 8))
+declared-most f (suc t) = omega (arith, declared-most f t, on-pick (λ n. n ≤ 1) (leb 1 (declaration_kind f t) && leb (declaration_kind f t) 8) 1 0 (λ e. omega arith) (λ e. omega arith))
 
 -- a few steps more fit too
 pub declared-fits : {f : List ℕ} {d : ℕ} → Accepted f → d ≡ declared_types f (count f types) → (n : ℕ) → leb n 16 ≡ true → d + n < 2 ^ 64
 declared-fits {f} a e n h = omega (arith, e, few-types f a, declared-most f (count f types), leb-true n 16 h)
 
-module _ (f : List ℕ) (name t : ℕ) where
-  -- n aliases lead from t to x, and none of the types before x is a structure
-  abbrev pub Left : ℕ → ℕ → ℕ → Type 0
-  Left most n x = Comes (field_declaration_up_to f name) (most - n) x (field_declaration f name t)
+-- ---- `declared_structure`
+pub structure-is : (f : List ℕ) (t : ℕ) (r : Option ℕ) {most d : ℕ} → d ≡ declared_types f (count f types) → most ≡ d + 1
+    → link_of r ≡ found_up_to (alias_target f) (λ t. eqb (declaration_kind f t) 5) most t → link_of r ≡ declared_structure f t
+unfolding declared_structure
+structure-is f t r {most} e m h = h ∙ ap (λ (n : ℕ). found_up_to (alias_target f) (λ t. eqb (declaration_kind f t) 5) n t) (rw (m, e, add-one))
 
-  pub declared-starts : {most d : ℕ} → d ≡ declared_types f (count f types) → most ≡ d + 1 → Left most 0 t
-  unfolding field_declaration
-  declared-starts {most} e m = starts_at (field_declaration_up_to f name) most t (rw (m, e, add-one))
+module _ (f : List ℕ) (name : ℕ) where
+  declared-found : (k t : ℕ)
+      → on_link (found_up_to (alias_target f) (λ t. eqb (declaration_kind f t) 5) k t) 0 (element_declaration f name) ≡ field_declaration_up_to f name k t
+  unfolding found_up_to field_declaration_up_to element_declaration
+  declared-found zero t = refl
+  declared-found (suc k) t = go (eqb (declaration_kind f t) 5) (alias_target f t) (λ d. declared-found k d)
+    where
+      go : (b : Bool) (l : ℕ)
+          → ((d : ℕ) → on_link (found_up_to (alias_target f) (λ t. eqb (declaration_kind f t) 5) k d) 0 (element_declaration f name) ≡ field_declaration_up_to f name k d)
+          → on_link (pick b (suc t) (on_link l 0 (found_up_to (alias_target f) (λ t. eqb (declaration_kind f t) 5) k))) 0 (element_declaration f name)
+          ≡ pick b (element_declaration f name t) (on_link l 0 (field_declaration_up_to f name k))
+      go true l ih = refl
+      go false zero ih = refl
+      go false (suc d) ih = ih d
 
-  module _ {most n x : ℕ} (i : Left most n x) where
-    pub never_declared : most ≤ n → 0 ≡ field_declaration f name t
-    unfolding field_declaration_up_to
-    never_declared l = ends_at i l refl
+  module _ (t : ℕ) where
+    pub undeclared : 0 ≡ declared_structure f t → 0 ≡ field_declaration f name t
+    unfolding field_declaration declared_structure
+    undeclared z = ap (λ (l : ℕ). on_link l 0 (element_declaration f name)) z ∙ declared-found (suc (declared_types f (count f types))) t
 
-    module _ (l : n < most) {kind : ℕ} (is : kind ≡ word f types x 4) where
-      pub declared-here : kind ≡ 5 → {r : ℕ}
-          → r ≡ on_link (first_named f elements name (word f types x 7) (word f types x 8)) 0 (λ e. suc (word f elements e 1))
-          → r ≡ field_declaration f name t
-      unfolding field_declaration_up_to declaration_kind
-      declared-here e h = stops_at i l (λ k. rw (← is, eq-eqb kind 5 e) h)
+    pub declared-here : {x : ℕ} → suc x ≡ declared_structure f t → (r : Option ℕ) → link_of r ≡ element_declaration f name x → link_of r ≡ field_declaration f name t
+    unfolding field_declaration declared_structure
+    declared-here z r h = h ∙ ap (λ (l : ℕ). on_link l 0 (element_declaration f name)) z ∙ declared-found (suc (declared_types f (count f types))) t
 
-      module _ (m : kind ≡ 5 → ⊥) {g : ℕ} (h : g ≡ alias_target f x) where
-        pub no_target : g ≡ 0 → 0 ≡ field_declaration f name t
-        unfolding field_declaration_up_to declaration_kind
-        no_target z = stops_at i l (λ k. rw (← is, ne_eqb kind 5 m, ← h, z))
+target-inside : {f : List ℕ} → Accepted f → (t y : ℕ) → IsType f t → suc y ≡ alias_target f t → IsType f y
+target-inside {f} a t y h z = link-to (IsType f) (alias_target f t) y (sym z) (alias-target f (IsType f) (IsType f) (leads-inside f a) t h)
 
-        pub target-next : (g ≡ 0 → ⊥) → Left most (n + 1) (g - 1)
-        unfolding field_declaration_up_to declaration_kind
-        target-next z = goes_further i l (λ k. rw (← is, ne_eqb kind 5 m, ← h) (sym (a-link 0 (field_declaration_up_to f name k) g z refl)))
+module _ (f : List ℕ) (a : Accepted f) (t : ℕ) (h : IsType f t) {x : ℕ} (z : suc x ≡ declared_structure f t) where
+  found : IsType f x × (eqb (declaration_kind f x) 5 ≡ true)
+  unfolding declared_structure
+  found = found-passes (alias_target f) (λ t. eqb (declaration_kind f t) 5) (IsType f) (target-inside a) (suc (declared_types f (count f types))) t h z
 
-pub kind-is : (f : List ℕ) (t : ℕ) {kind : ℕ} → kind ≡ word f types t 4 → kind ≡ 5 → declaration_kind f t ≡ 5
-unfolding declaration_kind
-kind-is f t e h = sym e ∙ h
+  pub structure-type : IsType f x
+  structure-type = found.0
 
-pub target-inside : {f : List ℕ} → Accepted f → (t : ℕ) → IsType f t → {g : ℕ} → g ≡ alias_target f t → (g ≡ 0 → ⊥) → IsType f (g - 1)
-target-inside {f} a t h {g} e n =
-    let z : g ≡ suc (g - 1) = omega (arith, n) in
-    link-to (IsType f) (alias_target f t) (g - 1) (sym e ∙ z) (alias-target f (IsType f) (IsType f) (leads-inside f a) t h)
+  pub structure-kind : declaration_kind f x ≡ 5
+  structure-kind = eqb-true (declaration_kind f x) 5 found.1
 
 pub ruleset laws =
-    (rules, inline-type, named-type, inline-element, named-element, elements-fit, no-element, an-element, element-fits, target_below, target-above, target-named, alias-base, no-simple, no_start, simple-start)
+    (rules, inline-type, named-type, inline-element, named-element, elements-fit, no-element, an-element, block-target, structure-target, no-target, not-simple, no_start, simple-start, a-structure, no-structure)
 
-pub ruleset walking = (rules, declared-fits, declared-starts, never_declared, declared-here, no_target, target-next, kind-is, target-inside)
+pub ruleset walking = (rules, declared-fits, undeclared, declared-here, structure-type, structure-kind)

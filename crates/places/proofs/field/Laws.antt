@@ -6,12 +6,15 @@ use native.Mathlib.Omega.{arith}
 use lib.Dec.{lit<}
 use borrow.Author.Rules.{rules}
 use borrow.Author.Tests.{eq-eqb, ne_eqb}
+use Rattle.std.specs.Prelude.{Option}
 use Rattle.definition.specs.declared.records.Shape.{Shape}
 use Rattle.definition.specs.declared.records.Shape.TheVariants as shape
 use Rattle.definition.specs.declared.records.Place.{Place}
 use Rattle.definition.specs.Base.{on_link, inline}
-use Rattle.definition.specs.Layout.{word, count, shapes, shape_fields, variables, initializers, most_records, limits_of_records}
-use Rattle.definition.specs.Records.{shape_at, initializer_kind}
+use Rattle.definition.specs.Layout.{word, count, shapes, shape_fields, variables, most_records, limits_of_records}
+use Rattle.definition.specs.declared.records.Initializer.{Initializer}
+use Rattle.definition.specs.declared.records.Initializer.TheVariants as init
+use Rattle.definition.specs.Records.{shape_at, initializer_kind, initializer_at}
 use Rattle.definition.specs.Ask.{Result, ok, none}
 use Rattle.definition.specs.Shapes.{on_shape}
 use Rattle.definition.specs.Places.{bare, place_of, typed_place, first_named, block_field_type, field_declaration, declared_type, declared_element, structure_field_place, field_place, string_place, variable_place}
@@ -23,19 +26,11 @@ use Rattle.laws.specs.Links.{Link, link-to, declared-type}
 use Rattle.laws.specs.Accepted.{Accepted, count_most}
 use Rattle.laws.specs.Nearby.{declared-field}
 use Rattle.laws.specs.Used.{IsType, leads-inside}
-use Rattle.records.proofs.Links.{no-link, a-link}
-use Rattle.places.specs.Found.{linked_place, structure_field, block_field}
+use Rattle.places.specs.Found.{linked_place, structure_field, block_field, string_of}
 use Rattle.places.specs.Inside.{PlaceIn, FieldsIn, structure-fields}
+use Rattle.places.specs.Links.{link_of}
 use Rattle.places.proofs.Others.{NoFields, no_fields}
-
--- ---- `linked_place`
-pub no_place : (f : List ℕ) (l : ℕ) → l ≡ 0 → none ≡ linked_place f l
-unfolding linked_place
-no_place f l e = rw e
-
-pub a-place : (f : List ℕ) (l : ℕ) → (l ≡ 0 → ⊥) → {p : Place} → p ≡ place_of f (l - 1) → ok p ≡ linked_place f l
-unfolding linked_place
-a-place f l n e = a-link none (λ t. ok (place_of f t)) l n (rw e)
+use Rattle.places.proofs.Views.{string-at, string-view}
 
 -- ---- types of a place
 pub linked-type : (f : List ℕ) (l : ℕ) → Link (IsType f) l → (l ≡ 0 → ⊥) → IsType f (l - 1)
@@ -44,54 +39,70 @@ linked-type f l h n = link-to (IsType f) l (l - 1) (let z : l ≡ suc (l - 1) = 
 pub place-linked : {f : List ℕ} {place : Place} → PlaceIn f place → Link (IsType f) place.id
 place-linked i = i.types.type
 
+-- the type that a link leads to
+pub led-type : (f : List ℕ) {l : ℕ} → Link (IsType f) l → {t : ℕ} → suc t ≡ l → IsType f t
+led-type f {l} h {t} z = link-to (IsType f) l t (sym z) h
+
+-- ---- `place_declaration`
+module _ (f : List ℕ) (place : Place) (name : ℕ) where
+  pub no_type : 0 ≡ place.id → 0 ≡ on_link place.id 0 (field_declaration f name)
+  no_type z = rw (← z)
+
+  pub a_type : {t : ℕ} → suc t ≡ place.id → (r : Option ℕ) → link_of r ≡ field_declaration f name t → link_of r ≡ on_link place.id 0 (field_declaration f name)
+  a_type z r h = rw (← z) h
+
 -- ---- `structure_field_place`
-module _ (f : List ℕ) (place : Place) (name s : ℕ) {i : ℕ} (is : i ≡ on_link place.id 0 (field_declaration f name)) where
-  pub undeclared : i ≡ 0 → {sh : Shape} → sh ≡ shape_at f s → {r : Place} → r ≡ bare sh → r ≡ structure_field_place f place name s
+module _ (f : List ℕ) (place : Place) (name s : ℕ) where
+  pub undeclared : 0 ≡ on_link place.id 0 (field_declaration f name) → {sh : Shape} → sh ≡ shape_at f s → {r : Place} → r ≡ bare sh → r ≡ structure_field_place f place name s
   unfolding structure_field_place
-  undeclared z e h = rw (← is, z, ← e) h
+  undeclared z e h = rw (← z, ← e) h
 
-  module _ (n : i ≡ 0 → ⊥) {id : ℕ} (p : id ≡ declared_type f (i - 1)) where
-    pub declared : {element : ℕ} → element ≡ declared_element f (i - 1) → {r : Place} → r ≡ typed_place f s id element → r ≡ structure_field_place f place name s
+  module _ {i : ℕ} (z : suc i ≡ on_link place.id 0 (field_declaration f name)) (type : Option ℕ) (p : link_of type ≡ declared_type f i) where
+    pub declared : (element : Option ℕ) → link_of element ≡ declared_element f i → {r : Place} → r ≡ typed_place f s (link_of type) (link_of element) → r ≡ structure_field_place f place name s
     unfolding structure_field_place
-    declared q {r} h = rw (← is) (a-link (bare (shape_at f s)) (λ i. typed_place f s (declared_type f i) (declared_element f i)) i n (rw (← p, ← q) h))
+    declared element q {r} h = rw (← z, ← p, ← q) h
 
-    pub declared-linked : Accepted f → PlaceIn f place → Link (IsType f) id
+    pub declared-linked : Accepted f → PlaceIn f place → Link (IsType f) (link_of type)
     declared-linked a at =
-        let z : i ≡ suc (i - 1) = omega (arith, n) in
-        let u : Each (IsType f) (initializer_uses f (i - 1)) = link-to (λ i. Each (IsType f) (initializer_uses f i)) _ (i - 1) (sym is ∙ z)
+        let u : Each (IsType f) (initializer_uses f i) = link-to (λ i. Each (IsType f) (initializer_uses f i)) _ i (sym z)
         (on-link (Link (λ i. Each (IsType f) (initializer_uses f i))) place.id 0 (field_declaration f name) tt
         (λ t q. declared-field f (IsType f) (IsType f) (leads-inside f a) name t (link-to (IsType f) place.id t q at.types.type))) in
-        rw p (declared-type (IsType f) f (i - 1) u)
+        rw p (declared-type (IsType f) f i u)
 
 -- ---- `structure_field`
 pub fields_fit : {f : List ℕ} → Accepted f → {first many : ℕ} → FieldsIn f first many → first + many < 2 ^ 32
 unfolding most_records limits_of_records
 fields_fit {f} a i = omega (arith, i.inside, count_most f a shape_fields (lit< tt))
 
-module _ (f : List ℕ) (name first many : ℕ) {k : ℕ} (is : k ≡ first_named f shape_fields name first many) where
-  pub no_field : (place : Place) → k ≡ 0 → none ≡ structure_field f place name first many
+module _ (f : List ℕ) (name first many : ℕ) where
+  pub no_field : (place : Place) → 0 ≡ first_named f shape_fields name first many → none ≡ structure_field f place name first many
   unfolding structure_field
-  no_field place z = rw (← is, z)
+  no_field place z = rw (← z)
 
-  module _ (n : k ≡ 0 → ⊥) {s : ℕ} (e : s ≡ word f shape_fields (k - 1) 1) where
+  module _ {k : ℕ} (z : suc k ≡ first_named f shape_fields name first many) {s : ℕ} (e : s ≡ word f shape_fields k 1) where
     pub a-field : (place : Place) {p : Place} → p ≡ structure_field_place f place name s → ok p ≡ structure_field f place name first many
     unfolding structure_field
-    a-field place h = rw (← is) (a-link none (λ k. ok (structure_field_place f place name (word f shape_fields k 1))) k n (rw (h, e)))
+    a-field place h = rw (← z, h, e)
 
     pub field-shape : FieldsIn f first many → s < count f shapes
     field-shape i =
-        let z : k ≡ suc (k - 1) = omega (arith, n) in
-        rw e (link-to (λ k. word f shape_fields k 1 < count f shapes) (first_named f shape_fields name first many) (k - 1) (sym is ∙ z)
+        rw e (link-to (λ k. word f shape_fields k 1 < count f shapes) (first_named f shape_fields name first many) k (sym z)
         (named-of f shape_fields name (λ k. word f shape_fields k 1 < count f shapes) first many i.lower))
 
 -- ---- `block_field`
-pub no-block-field : (f : List ℕ) (name l : ℕ) → l ≡ 0 → none ≡ block_field f l name
-unfolding block_field
-no-block-field f name l e = rw e
+module _ (f : List ℕ) (name : ℕ) {l : ℕ} where
+  pub no-block : 0 ≡ l → none ≡ block_field f l name
+  unfolding block_field
+  no-block z = rw (← z)
 
-pub a-block-field : (f : List ℕ) (name l : ℕ) → (l ≡ 0 → ⊥) → {d : ℕ} → d ≡ block_field_type f (l - 1) name → {r : Result Place} → r ≡ linked_place f d → r ≡ block_field f l name
-unfolding block_field
-a-block-field f name l n e h = a-link none (λ t. linked_place f (block_field_type f t name)) l n (rw (← e) h)
+  module _ {t : ℕ} (z : suc t ≡ l) where
+    pub no-block-field : 0 ≡ block_field_type f t name → none ≡ block_field f l name
+    unfolding block_field linked_place
+    no-block-field q = rw (← z, ← q)
+
+    pub a-block-field : {d : ℕ} → suc d ≡ block_field_type f t name → {p : Place} → p ≡ place_of f d → ok p ≡ block_field f l name
+    unfolding block_field linked_place
+    a-block-field q h = rw (← z, ← q, h)
 
 -- ---- `field_place`
 module _ (f : List ℕ) (place : Place) (name : ℕ) where
@@ -114,24 +125,32 @@ module _ (f : List ℕ) (place : Place) (name : ℕ) where
   pub of_other : NoFields place.shape → none ≡ field_place f place name
   of_other h = no_fields none place.shape _ _ h ∙ sym by_shape
 
--- ---- `string_place`, `variable_place`
-module _ (f : List ℕ) (i : ℕ) {length : ℕ} (is : length ≡ word f initializers i 6) where
-  pub no_length : length ≡ inline → none ≡ string_place f i
-  unfolding string_place
-  no_length e = rw (← is, eq-eqb length inline e)
+-- ---- `string_place`, `type_place`, `variable_place`
+pub no_length : (length width : ℕ) → length ≡ inline → none ≡ string_of length width
+unfolding string_of
+no_length length width e = rw (eq-eqb length inline e)
 
-  pub a-length : (length ≡ inline → ⊥) → {width : ℕ} → width ≡ word f initializers i 7 → {p : Place} → p ≡ bare (shape.String length width) → ok p ≡ string_place f i
-  unfolding string_place
-  a-length n e h = rw (← is, ne_eqb length inline n, ← e, h)
+pub a-length : (length width : ℕ) → (length ≡ inline → ⊥) → {p : Place} → p ≡ bare (shape.String length width) → ok p ≡ string_of length width
+unfolding string_of
+a-length length width n h = rw (ne_eqb length inline n, h)
 
-module _ (f : List ℕ) (v i : ℕ) {kind : ℕ} (is : kind ≡ word f initializers i 0) {r : Result Place} where
-  pub by-string : kind ≡ 4 → r ≡ string_place f i → r ≡ variable_place f v i
-  unfolding variable_place initializer_kind
-  by-string e h = rw (← is, eq-eqb kind 4 e) h
+module _ (f : List ℕ) {l : ℕ} where
+  pub no_place : 0 ≡ l → none ≡ linked_place f l
+  unfolding linked_place
+  no_place z = rw (← z)
 
-  pub by-type : (kind ≡ 4 → ⊥) → {l : ℕ} → l ≡ word f variables v 2 → r ≡ linked_place f l → r ≡ variable_place f v i
-  unfolding variable_place initializer_kind linked_place
-  by-type n e h = rw (← is, ne_eqb kind 4 n, ← e) h
+  pub a-place : {t : ℕ} → suc t ≡ l → {p : Place} → p ≡ place_of f t → ok p ≡ linked_place f l
+  unfolding linked_place
+  a-place z h = rw (← z, h)
+
+module _ (f : List ℕ) (v i : ℕ) {start : Initializer} (is : start ≡ initializer_at f i) {r : Result Place} where
+  pub by-string : {value length width : ℕ} → start ≡ init.String value length width → r ≡ string_of length width → r ≡ variable_place f v i
+  unfolding variable_place string_place string_of
+  by-string e h = let s = string-view f i (sym is ∙ e) in rw (s.0, s.1, s.2) h
+
+  pub by-type : ((value length width : ℕ) → start ≡ init.String value length width → ⊥) → r ≡ linked_place f (word f variables v 2) → r ≡ variable_place f v i
+  unfolding variable_place linked_place
+  by-type n h = rw (ne_eqb (initializer_kind f i) 4 (λ e. n _ _ _ (is ∙ string-at f i e))) h
 
 pub ruleset laws =
-    (rules, no-link, a-link, no_place, a-place, linked-type, place-linked, undeclared, declared, declared-linked, fields_fit, no_field, a-field, field-shape, no-block-field, a-block-field, structure-fields, of-structure, of-block, of_other, no_length, a-length, by-string, by-type)
+    (rules, led-type, place-linked, no_type, a_type, undeclared, declared, declared-linked, fields_fit, no_field, a-field, field-shape, no-block, no-block-field, a-block-field, structure-fields, of-structure, of-block, of_other, no_length, a-length, no_place, a-place, by-string, by-type)

@@ -1,47 +1,52 @@
 -- A law for each return of named.rt. Assumes nothing.
 use mathlib.Core.Path.{◌≡◌, refl}
 use mathlib.Core.List.{List}
-use Prim.Native.Nat.{ℕ, suc, ◌+◌, ◌-◌, ◌<◌, ◌≤◌}
+use Prim.Native.Nat.{ℕ, zero, suc, ◌+◌, ◌-◌, ◌<◌, ◌≤◌}
 use native.Mathlib.Omega.{arith}
-use native.Mathlib.Numerals.{add-one}
 use borrow.Author.Rules.{rules}
-use borrow.Author.Tests.{eq-eqb, ne_eqb}
-use Rattle.definition.specs.Base.{or_else}
+use borrow.Author.Tests.{eq-eqb, ne_eqb, eqb-true, eqb-false}
+use lib.Dec.{eqb}
+use mathlib.Core.Bool.{Bool, true, false}
+use Rattle.std.specs.Prelude.{Option, Some, None}
+use Rattle.std.specs.Option.{SomeIff, MatchOption}
 use Rattle.definition.specs.Layout.{word}
 use Rattle.definition.specs.Places.{first_named}
-use Rattle.records.proofs.Links.{no-link, a-link}
-use Rattle.places.proofs.Steps.{Comes, goes_further, stops_at, ends_at}
+use Rattle.places.specs.Links.{link_of}
 
--- ---- `or_else`
-pub or-other : (a b : ℕ) → a ≡ 0 → b ≡ or_else a b
-or-other a b e = rw e
-
-pub or-first : (a b : ℕ) → (a ≡ 0 → ⊥) → a ≡ or_else a b
-or-first a b n = let q : a ≡ suc (a - 1) = omega (arith, n) in rw q
+-- ---- `led_to`
+pub link-is : (l : ℕ) (r : Option ℕ) → SomeIff r (1 ≤ l) (l - 1) → link_of r ≡ l
+link-is l None h = let z : 0 ≡ l = omega (arith, h) in z
+link-is l (Some n) h = let p = h.0 in let e = h.1 in let z : suc n ≡ l = omega arith in z
 
 -- ---- `first_named`
-module _ (f : List ℕ) (s name first many : ℕ) where
-  -- no record before n has the name
-  abbrev pub Left : ℕ → Type 0
-  Left n = Comes (λ k x. first_named f s name x k) (first + many - n) n (first_named f s name first many)
+module _ (f : List ℕ) (s name : ℕ) where
+  abbrev pub Named : ℕ → Type 0
+  Named n = word f s n 0 ≡ name
 
-  pub named-starts : Left first
-  named-starts = let all : first + many - first ≡ many = omega arith in record { same = rw all }
+  abbrev pub Unnamed : ℕ → Type 0
+  Unnamed n = word f s n 0 ≡ name → ⊥
 
-  module _ {n : ℕ} (i : Left n) where
-    pub never_named : first + many ≤ n → 0 ≡ first_named f s name first many
-    unfolding first_named
-    never_named l = ends_at i l refl
+  none-named : (many first : ℕ) → ((k : ℕ) → first ≤ k → k < first + many → Unnamed k) → 0 ≡ first_named f s name first many
+  unfolding first_named
+  none-named zero first h = refl
+  none-named (suc many) first h =
+      rw (ne_eqb (word f s first 0) name (h first (omega arith) (omega arith))) (none-named many (suc first) (λ k l m. h k (omega arith) (omega arith)))
 
-    module _ (l : n < first + many) {w : ℕ} (is : w ≡ word f s n 0) where
-      pub named_here : w ≡ name → n + 1 ≡ first_named f s name first many
-      unfolding first_named
-      named_here e = stops_at i l (λ k. rw (← is, eq-eqb w name e, add-one))
+  one-named : (many first n : ℕ) → first ≤ n → n < first + many → Named n → ((k : ℕ) → first ≤ k → k < n → Unnamed k) → suc n ≡ first_named f s name first many
+  unfolding first_named
+  one-named zero first n l m e h = absurd (omega arith)
+  one-named (suc many) first n l m e h = go (eqb first n) refl (λ d. one-named many (suc first) n d (omega arith) e (λ k a b. h k (omega arith) b))
+    where
+      go : (b : Bool) → eqb first n ≡ b → (suc first ≤ n → suc n ≡ first_named f s name (suc first) many) → suc n ≡ first_named f s name first (suc many)
+      go true q ih = rw (eqb-true first n q, eq-eqb (word f s n 0) name e)
+      go false q ih =
+          let d = eqb-false first n q in
+          rw (ne_eqb (word f s first 0) name (h first (omega arith) (omega (arith, d)))) (ih (omega (arith, d)))
 
-      pub named-next : (w ≡ name → ⊥) → Left (n + 1)
-      unfolding first_named
-      named-next e = goes_further i l (λ k. rw (← is, ne_eqb w name e, add-one))
+  pub named-by : (first many : ℕ) (r : Option ℕ)
+      → MatchOption r ((k : ℕ) → first ≤ k → k < first + many → Unnamed k) (λ n. (first ≤ n) × (n < first + many) × Named n × ((k : ℕ) → first ≤ k → k < n → Unnamed k))
+      → link_of r ≡ first_named f s name first many
+  named-by first many None h = none-named many first h
+  named-by first many (Some n) h = one-named many first n h.0 h.1 h.2 h.3
 
-pub ruleset laws = (rules, no-link, a-link, or-other, or-first)
-
-pub ruleset walking = (rules, named-starts, never_named, named_here, named-next)
+pub ruleset laws = (rules, link-is)

@@ -2,10 +2,13 @@
 use mathlib.Core.Path.{◌≡◌, refl, ap, sym, ◌∙◌}
 use mathlib.Core.Bool.{Bool, true, false}
 use mathlib.Core.List.{List}
-use Prim.Native.Nat.{ℕ, zero, suc, ◌+◌, ◌-◌, ◌<◌, ◌≤◌}
+use Prim.Native.Nat.{ℕ, suc, ◌+◌, ◌-◌, ◌^◌, ◌<◌, ◌≤◌}
 use native.Mathlib.Omega.{arith}
 use native.Mathlib.Numerals.{add-one}
 use borrow.Author.Rules.{rules}
+use Rattle.std.specs.Prelude.{Option, Some, None}
+use Rattle.std.specs.Option.{option_or}
+use Rattle.std.specs.Bool.{then_some}
 use Rattle.definition.specs.declared.records.Shape.{Shape}
 use Rattle.definition.specs.declared.records.Shape.TheVariants as shape
 use Rattle.definition.specs.declared.records.Place.{Place}
@@ -17,10 +20,11 @@ use Rattle.definition.specs.Shapes.{on_array}
 use Rattle.definition.specs.Places.{bare, place_of, typed_place, element_place, innermost, leaf_place}
 use Rattle.laws.specs.Cases.{on-link}
 use Rattle.laws.specs.Links.{Link, link-to, link-or}
-use Rattle.laws.specs.Accepted.{Accepted}
+use Rattle.laws.specs.Accepted.{Accepted, few-types}
 use Rattle.laws.specs.Nearby.{element-link}
 use Rattle.laws.specs.Used.{IsType, leads-inside}
-use Rattle.records.proofs.Links.{no-link}
+use Rattle.places.specs.Found.{own_link}
+use Rattle.places.specs.Links.{link_of, link-of-or}
 use Rattle.places.specs.Inside.{PlaceIn, type-shape, element-shape, element-in}
 use Rattle.places.proofs.Others.{NoArray, no-array}
 use Rattle.places.proofs.Steps.{Comes, starts_at, goes_further, stops_at, ends_at}
@@ -36,45 +40,68 @@ unfolding place_of type_shape element_type
 place-made f t p q r = rw (q, p, r, add-one)
 
 -- ---- `own_type`
-module _ (f : List ℕ) (s id : ℕ) (n : id ≡ 0 → ⊥) {w : ℕ} (is : w ≡ word f types (id - 1) 0) where
-  pub own-inside : Accepted f → Link (IsType f) id → w < count f shapes
-  unfolding type_shape
-  own-inside a l = let z : id ≡ suc (id - 1) = omega (arith, n) in rw is (type-shape f a (id - 1) (link-to (IsType f) id (id - 1) z l))
+module _ (f : List ℕ) (s : ℕ) (named : Option ℕ) where
+  pub no-own : named ≡ None → 0 ≡ own_link f s (link_of named)
+  unfolding own_link
+  no-own e = rw e
 
-  module _ {b : Bool} (e : b ≡ same_shape f w s) where
-    own_is : on_link id 0 (λ t. pick (same_shape f (type_shape f t) s) id 0) ≡ pick b id 0
-    unfolding type_shape
-    own_is = go id n is
-      where
-        go : (i : ℕ) → (i ≡ 0 → ⊥) → w ≡ word f types (i - 1) 0 → on_link i 0 (λ t. pick (same_shape f (type_shape f t) s) id 0) ≡ pick b id 0
-        go zero n is = absurd (n refl)
-        go (suc i) n is = let q : suc i - 1 ≡ i = omega arith in let k : w ≡ word f types i 0 = rw q at is in rw (← k, ← e)
+  module _ {t : ℕ} (n : named ≡ Some t) where
+    pub own-type : Link (IsType f) (link_of named) → IsType f t
+    own-type l = rw n at l
 
-    pub own-kept : b ≡ true → id ≡ on_link id 0 (λ t. pick (same_shape f (type_shape f t) s) id 0)
-    own-kept h = rw (own_is, h)
+    module _ {w : ℕ} (is : w ≡ word f types t 0) where
+      pub own-inside : Accepted f → Link (IsType f) (link_of named) → w < count f shapes
+      unfolding type_shape
+      own-inside a l = rw is (type-shape f a t (own-type l))
 
-    pub own-left : b ≡ false → 0 ≡ on_link id 0 (λ t. pick (same_shape f (type_shape f t) s) id 0)
-    own-left h = rw (own_is, h)
+      pub own-kept : {b : Bool} → b ≡ same_shape f w s → {r : Option ℕ} → r ≡ then_some b t → link_of r ≡ own_link f s (link_of named)
+      unfolding own_link type_shape
+      own-kept {b} e h = rw (n, ← is, ← e, h) (go b)
+        where
+          go : (b : Bool) → link_of (then_some b t) ≡ pick b (suc t) 0
+          go true = refl
+          go false = refl
 
-pub element-is : (f : List ℕ) (id : ℕ) {r : ℕ} → r ≡ on_link id 0 (λ n. word f types n 2) → r ≡ on_link id 0 (element_type f)
-unfolding element_type
-element-is f id e = e
+pub kept-near : {f : List ℕ} → Accepted f → {t : ℕ} → IsType f t → (b : Bool) (r : Option ℕ) → r ≡ then_some b t → link_of r < 2 ^ 32
+kept-near {f} a {t} h b r e = rw e (go b)
+  where
+    go : (b : Bool) → link_of (then_some b t) < 2 ^ 32
+    go true = omega (arith, few-types f a)
+    go false = omega arith
+
+-- ---- `element_of`
+module _ (f : List ℕ) (of : Option ℕ) where
+  pub no-element : of ≡ None → 0 ≡ on_link (link_of of) 0 (element_type f)
+  no-element e = rw e
+
+  pub element-is : {t : ℕ} → of ≡ Some t → (r : Option ℕ) → link_of r ≡ word f types t 2 → link_of r ≡ on_link (link_of of) 0 (element_type f)
+  unfolding element_type
+  element-is n r h = rw n h
 
 -- ---- `typed_place`, `element_place`
-pub typed-made : (f : List ℕ) (s id element : ℕ) {own other e : ℕ} {sh : Shape}
-    → own ≡ on_link id 0 (λ t. pick (same_shape f (type_shape f t) s) id 0) → other ≡ on_link own 0 (element_type f) → sh ≡ shape_at f s → e ≡ or_else element other
-    → record { shape = sh; id = own; element = e } ≡ typed_place f s id element
-unfolding typed_place
-typed-made f s id element p q r h = rw (h, q, p, r)
+pub or-near : (a b r : Option ℕ) → r ≡ option_or a b → link_of a < 2 ^ 32 → link_of b < 2 ^ 32 → link_of r < 2 ^ 32
+or-near None b r e p q = rw e q
+or-near (Some n) b r e p q = rw e p
 
-module _ (f : List ℕ) (place : Place) {other id : ℕ} (p : other ≡ on_link place.id 0 (element_type f)) (q : id ≡ or_else place.element other) where
-  pub element-made : (s : ℕ) {r : Place} → r ≡ typed_place f s id 0 → r ≡ element_place f place s
+pub typed-made : (f : List ℕ) (s : ℕ) (named element own other both : Option ℕ) {id e : ℕ} {sh : Shape}
+    → link_of own ≡ own_link f s (link_of named) → link_of other ≡ on_link (link_of own) 0 (element_type f) → sh ≡ shape_at f s
+    → both ≡ option_or element other → id ≡ link_of own → e ≡ link_of both
+    → record { shape = sh; id = id; element = e } ≡ typed_place f s (link_of named) (link_of element)
+unfolding typed_place own_link
+typed-made f s named element own other both p q r o i h = rw (h, o, link-of-or element other, q, i, p, r)
+
+module _ (f : List ℕ) (place : Place) (type element other named : Option ℕ) (t : link_of type ≡ place.id) (e : link_of element ≡ place.element)
+    (p : link_of other ≡ on_link (link_of type) 0 (element_type f)) (q : named ≡ option_or element other) where
+  element-named : link_of named ≡ or_else place.element (on_link place.id 0 (element_type f))
+  element-named = ap link_of q ∙ link-of-or element other ∙ rw (e, p, t)
+
+  pub element-made : (s : ℕ) {r : Place} → r ≡ typed_place f s (link_of named) 0 → r ≡ element_place f place s
   unfolding element_place
-  element-made s h = rw (← p, ← q) h
+  element-made s h = rw (← element-named) h
 
-  pub element-linked : Accepted f → PlaceIn f place → Link (IsType f) id
+  pub element-linked : Accepted f → PlaceIn f place → Link (IsType f) (link_of named)
   element-linked a i =
-      rw (q, p)
+      rw element-named
       (link-or (IsType f) place.element (on_link place.id 0 (element_type f)) i.types.element
       (on-link (Link (IsType f)) place.id 0 (element_type f) tt
       (λ t e. element-link f (IsType f) (IsType f) (leads-inside f a) t (link-to (IsType f) place.id t e i.types.type))))
@@ -106,6 +133,6 @@ module _ (f : List ℕ) (place : Place) where
 pub leaf-made : {f : List ℕ} {place : Place} → Accepted f → PlaceIn f place → {s first many : ℕ} → place.shape ≡ shape.Array s first many → {r : Place} → r ≡ element_place f place s → PlaceIn f r
 leaf-made {f} {place} a i {s} e h = rw h (element-in f a place s i (element-shape i e))
 
-pub ruleset laws = (rules, no-link, bare-made, place-made, own-inside, own-kept, own-left, element-is, typed-made, element-made, element-linked)
+pub ruleset laws = (rules, bare-made, place-made, no-own, own-type, own-inside, own-kept, kept-near, no-element, element-is, or-near, typed-made, element-made, element-linked)
 
 pub ruleset walking = (rules, element-shape, leaf-starts, leaf-ends, leaf-here, leaf-next, leaf-made)

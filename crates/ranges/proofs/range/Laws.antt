@@ -1,15 +1,14 @@
--- What the bounds of an integer type and `le_z` say of a sign and a size, at any sign and width: a law for each return of range.rt. Assumes nothing.
+-- What the bounds of an integer type say of a sign and a size, at any sign and width: a law for each return of `fits`. Assumes nothing.
 use mathlib.Core.Path.{◌≡◌, refl, sym, ap, ◌∙◌}
 use mathlib.Core.Bool.{Bool, true, false, ◌&&◌}
-use Prim.Native.Nat.{ℕ, zero, suc, ◌+◌, ◌-◌, ◌^◌}
+use Prim.Native.Nat.{ℕ, zero, suc, ◌-◌, ◌^◌}
 use native.Mathlib.Omega.{arith}
 use borrow.Author.Rules.{rules}
-use borrow.Author.Tests.{ltb-true, le-ltb}
-use lib.Dec.{T, leb, ltb, eqb, leb-zero, leb-suc-suc, leb-suc-zero, eqb-suc-zero}
-use lib.IntN.{ℤ, pos, negsuc, neg_ℤ, nat_abs, ◌-ℤ◌}
-use lib.Signed.{le_z, lt_z, mag, non_neg}
+use lib.Dec.{leb, eqb, leb-zero, leb-suc-suc, leb-suc-zero}
+use lib.IntN.{ℤ, pos, neg_ℤ}
+use lib.Signed.{le_z}
 use mir.Syntax.{w64}
-use mir.Val.{Fits, SFits, to_z, of_z}
+use mir.Val.{SFits, to_z, of_z}
 use mir.ValLaws.{to_z-of_z}
 use Rattle.definition.specs.declared.records.Constant.{Constant}
 use Rattle.definition.specs.Ask.{Result, ok, none, large}
@@ -19,50 +18,13 @@ use Rattle.definition.specs.Scalar.{size_of, value_of}
 use Rattle.std.specs.Prelude.{Option, Some, None}
 use Rattle.ranges.specs.Table.{Bounds, bounds, bounds_of, listed, depth_of}
 
--- ---- `depth`
 -- an i64 as the machine has it
 abbrev stored : ℤ → ℤ
 stored z = to_z w64 (of_z w64 z)
 
-below-zero : (z : ℤ) → lt_z z (pos 0) ≡ true → (negsuc 0 -ℤ z ≡ pos (mag z)) × (mag z + 1 ≡ depth_of z)
-below-zero (pos k) e = absurd (omega (arith, ltb-true k 0 e))
-below-zero (negsuc k) e =
-    let b : ltb (suc k) 1 ≡ false = le-ltb (suc k) 1 (omega arith) in
-    let m : suc k - 1 ≡ k = omega arith in
-    (rw (b, m), omega arith)
-
-not-below-zero : (z : ℤ) → lt_z z (pos 0) ≡ false → 0 ≡ depth_of z
-not-below-zero (pos k) e = refl
-not-below-zero (negsuc k) e = let z : ◌≡◌ {A = ℕ} 0 1 = cc in absurd (omega arith)
-
 module _ {z : ℤ} (f : SFits w64 z) where
   is-stored : stored z ≡ z
   is-stored = to_z-of_z w64 z f
-
-  pub no-depth : lt_z (stored z) (pos 0) ≡ false → 0 ≡ depth_of z
-  no-depth e = not-below-zero z (rw is-stored at e)
-
-  module _ (e : lt_z (stored z) (pos 0) ≡ true) where
-    is_turned : negsuc 0 -ℤ stored z ≡ pos (mag z)
-    is_turned = rw is-stored (below-zero z (rw is-stored at e)).0
-
-    pub turned-fits : SFits w64 (negsuc 0 -ℤ stored z)
-    turned-fits = rw is_turned (record { sfits = f.sfits })
-
-    turned-stored : stored (negsuc 0 -ℤ stored z) ≡ pos (mag z)
-    turned-stored = to_z-of_z w64 (negsuc 0 -ℤ stored z) turned-fits ∙ is_turned
-
-    pub turned_plain : T (non_neg (stored (negsuc 0 -ℤ stored z)))
-    turned_plain = rw turned-stored tt
-
-    pub depth-fits : Fits w64 (nat_abs (stored (negsuc 0 -ℤ stored z)) + 1)
-    depth-fits = rw turned-stored (record { fits = omega (arith, f.sfits) })
-
-    pub turned-size : Fits w64 (nat_abs (stored (negsuc 0 -ℤ stored z)))
-    turned-size = record { fits = omega (arith, depth-fits.fits) }
-
-    pub depth_is : nat_abs (stored (negsuc 0 -ℤ stored z)) + 1 ≡ depth_of z
-    depth_is = rw turned-stored (below-zero z (rw is-stored at e)).1
 
 -- ---- `fits`: what the bounds of any sign and width say of a sign and a size
 le-negatives : (m n : ℕ) → leb n m ≡ le_z (neg_ℤ (pos m)) (neg_ℤ (pos n))
@@ -138,45 +100,4 @@ module _ (signed : Bool) (bits : ℕ) (b : is_bits bits ≡ true) where
           let is-greatest : pos x.1 ≡ greatest signed bits = ap highest_in are-bounds in
           rw (← negative_is, q, ← is-size, least-below signed bits n, ← is-greatest)
 
--- ---- `within`
-le-zeros : (n : ℕ) → eqb n 0 ≡ le_z (pos 0) (neg_ℤ (pos n))
-le-zeros zero = refl
-le-zeros (suc n) = eqb-suc-zero n
-
-le-back : (m n : ℕ) → (m ≡ 0 → ⊥) → false ≡ le_z (pos m) (neg_ℤ (pos n))
-le-back zero n h = absurd (h refl)
-le-back (suc m) zero h = sym (leb-suc-zero m)
-le-back (suc m) (suc n) h = refl
-
-module _ (a b : Constant) {s t : Bool} (sa : s ≡ eqb a.sign 1) (sb : t ≡ eqb b.sign 1) where
-  pub at-most-across : s ≡ true → t ≡ false → true ≡ le_z (value_of a) (value_of b)
-  unfolding value_of number
-  at-most-across p q = rw (← sa, ← sb, p, q) (le-across (size_of a) (size_of b))
-
-  pub at-most-back : {m : ℕ} → m ≡ size_of a → s ≡ false → t ≡ true → (m ≡ 0 → ⊥) → false ≡ le_z (value_of a) (value_of b)
-  unfolding value_of number
-  at-most-back ma p q h = rw (← sa, ← sb, p, q, ← ma) (le-back _ (size_of b) h)
-
-  module _ {m n : ℕ} (ma : m ≡ size_of a) (nb : n ≡ size_of b) where
-    pub at-most-negative : s ≡ true → t ≡ true → leb n m ≡ le_z (value_of a) (value_of b)
-    unfolding value_of number
-    at-most-negative p q = rw (← sa, ← sb, p, q, ← ma, ← nb) (le-negatives m n)
-
-    pub at-most-zeros : s ≡ false → t ≡ true → m ≡ 0 → eqb n 0 ≡ le_z (value_of a) (value_of b)
-    unfolding value_of number
-    at-most-zeros p q z = rw (← sa, ← sb, p, q, ← ma, z, ← nb) (le-zeros n)
-
-    pub at-most-plain : s ≡ false → t ≡ false → leb m n ≡ le_z (value_of a) (value_of b)
-    unfolding value_of number
-    at-most-plain p q = rw (← sa, ← sb, p, q, ← ma, ← nb)
-
-module _ (low high v : ℤ) {r : Bool} (e : r ≡ le_z low v) where
-  pub between-low : {q : Bool} → r ≡ true → q ≡ le_z v high → q ≡ between low high v
-  unfolding between
-  between-low t h = rw (← e, t) h
-
-  pub between-not : r ≡ false → false ≡ between low high v
-  unfolding between
-  between-not t = rw (← e, t)
-
-pub ruleset laws = (rules, no-depth, turned-fits, turned_plain, turned-size, depth-fits, depth_is, fits-unlisted, fits_below, fits-above, at-most-across, at-most-back, at-most-negative, at-most-zeros, at-most-plain, between-low, between-not)
+pub ruleset laws = (rules, fits-unlisted, fits_below, fits-above)

@@ -3,7 +3,7 @@ use mathlib.Core.Path.{◌≡◌, refl}
 use mathlib.Core.Bool.{Bool, true, false, ◌&&◌, ◌||◌}
 use Prim.Native.Nat.{ℕ, ◌-◌, ◌/◌, ◌^◌}
 use borrow.Author.Rules.{rules}
-use borrow.Author.Tests.{eq-eqb, ne_eqb}
+use borrow.Author.Tests.{ne_eqb}
 use lib.Bits.{bit_and, and_mask, mask_lt}
 use lib.Dec.{eqb, leb}
 use mir.Syntax.{w32}
@@ -15,7 +15,9 @@ use Rattle.definition.specs.declared.records.Shape.{Shape}
 use Rattle.definition.specs.declared.records.Shape.TheVariants as shape
 use Rattle.definition.specs.declared.records.Constant.{Constant}
 use Rattle.definition.specs.Records.{constant_of}
-use Rattle.definition.specs.Ask.{Result, ok, none}
+use Rattle.std.specs.Prelude.{Option}
+use Rattle.std.specs.Bool.{then_some}
+use Rattle.definition.specs.Ask.{Result, ok, none, result_of}
 use Rattle.definition.specs.Accept.{is_bits}
 use Rattle.definition.specs.Ieee.{rounded}
 use Rattle.definition.specs.Iec.{between, in_range}
@@ -25,31 +27,12 @@ use Rattle.scalar.specs.String.{cut_by, Countable}
 use Rattle.scalar.specs.Convert.{as_string_by, converted_by, Counts}
 use Rattle.scalar.proofs.NoScalar.{no_scalars, no-scalar}
 
--- ---- `kept`, also behind a test that is known
+-- ---- `kept`
 module _ (c : Constant) where
-  pub kept-yes : {t : Bool} → t ≡ true → ok c ≡ kept t c
+  pub kept-is : (t : Bool) {r : Option Constant} → r ≡ then_some t c → result_of r ≡ kept t c
   unfolding kept
-  kept-yes e = rw e
-
-  pub kept-no : {t : Bool} → t ≡ false → none ≡ kept t c
-  unfolding kept
-  kept-no e = rw e
-
-  module _ (b t : Bool) {a : Bool} (h : a ≡ b) where
-    pub both-kept : {x : Result Constant} → a ≡ true → x ≡ kept t c → x ≡ kept (b && t) c
-    both-kept e k = rw (← h, e) k
-
-    pub first-none : a ≡ false → none ≡ kept (b && t) c
-    unfolding kept
-    first-none e = rw (← h, e)
-
-  module _ {kind : ℕ} (t : Bool) where
-    pub kind-kept : {x : Result Constant} → c.kind ≡ kind → x ≡ kept t c → x ≡ kept (eqb c.kind kind && t) c
-    kind-kept e k = rw (eq-eqb _ _ e) k
-
-    pub kind-none : (c.kind ≡ kind → ⊥) → none ≡ kept (eqb c.kind kind && t) c
-    unfolding kept
-    kind-none n = rw (ne_eqb _ _ n)
+  kept-is true e = rw e
+  kept-is false e = rw e
 
   -- ---- the kinds that `convert` looks at
   abbrev bit : Bool
@@ -77,7 +60,7 @@ module _ (c : Constant) where
 
   -- ---- BOOL
   module _ {b : Bool} (h : b ≡ bit) where
-    pub bool-bit : b ≡ true → ok (record { kind = 0; sign = 0; low = c.low; high = 0; width = 0 }) ≡ as_bool c
+    pub bool-bit : b ≡ true → ok (constant_of 0 0 c.low 0 0) ≡ as_bool c
     unfolding as_bool constant_of
     bool-bit e = rw (← h, e)
 
@@ -88,7 +71,7 @@ module _ (c : Constant) where
   -- ---- REAL and LREAL
   module _ (bits : ℕ) where
     pub real-integer : {s : Bool} {n r : ℕ} → c.kind ≡ 1 → s ≡ eqb c.sign 1 → n ≡ size_of c → r ≡ rounded bits s n
-        → ok (record { kind = 3; sign = 0; low = bit_and r (2 ^ 32 - 1); high = r / 2 ^ 32; width = 0 }) ≡ as_real bits c
+        → ok (constant_of 3 0 (bit_and r (2 ^ 32 - 1)) (r / 2 ^ 32) 0) ≡ as_real bits c
     unfolding as_real is_integer constant_of
     real-integer {r = r} k s n h = rw (← n, ← s, ← h, k, and_mask r 32)
 
@@ -179,4 +162,4 @@ module _ (c least greatest : Constant) (setting : ℕ) (s : Shape) where
 
 pub ruleset arms = (rules, arm-bits, shape-counted, other_none, enumeration-none, to-bool, to-real, to-string, to-subrange, to-int, to-uint, to-bytes, to-time, to-date, to-time-of-day, to-date-and-time)
 
-pub ruleset laws = (rules, kept-yes, kept-no, both-kept, first-none, kind-kept, kind-none, bit-integer, bit-signed, bit-other, whole-integer, whole-other, bool-bit, bool-other, real-integer, real-other, string-counted, string-kept, string-none, low_fits)
+pub ruleset laws = (rules, kept-is, bit-integer, bit-signed, bit-other, whole-integer, whole-other, bool-bit, bool-other, real-integer, real-other, string-counted, string-kept, string-none, low_fits)

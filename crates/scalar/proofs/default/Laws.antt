@@ -2,9 +2,13 @@
 use mathlib.Core.Path.{◌≡◌, refl}
 use mathlib.Core.Logic.{inl, inr}
 use mathlib.Core.List.{List, [], ◌∷◌}
-use Prim.Native.Nat.{ℕ, ◌≤◌, ◌<◌}
+use Prim.Native.Nat.{ℕ}
 use borrow.Author.Rules.{rules}
-use borrow.Author.Tests.{lt-ltb, le-ltb}
+use lib.Dec.{ltb}
+use mathlib.Core.Bool.{Bool, true, false}
+use Rattle.std.specs.Prelude.{Option}
+use Rattle.std.specs.Bool.{then_some}
+use Rattle.definition.specs.Base.{pick}
 use types.Run.{OneOf, miss}
 use denote.Enum.Declared.{tag_of}
 use Rattle.definition.specs.contracts.records.Shape.{the_type}
@@ -13,16 +17,17 @@ use Rattle.definition.specs.declared.records.Shape.TheVariants as shape
 use Rattle.definition.specs.declared.records.Constant.{Constant}
 use Rattle.definition.specs.Records.{constant_of}
 use Rattle.definition.specs.Tree.{constant_tree, enumerated_tree, null_tree}
-use Rattle.definition.specs.Ask.{Result, Outcome, ok, none}
+use Rattle.definition.specs.Ask.{Result, Outcome, ok, none, result_of}
 use Rattle.definition.specs.Scalar.{as_tree, zero_of, long, as_integer_tree}
 use Rattle.scalar.specs.String.{cut_by}
 use Rattle.scalar.proofs.string.Laws.{none-counted}
 use Rattle.scalar.specs.Default.{implicit_by}
 use Rattle.scalar.proofs.NoScalar.{no_scalars, no-scalar}
 
-pub zero-tree : (kind width : ℕ) → as_tree (ok (record { kind = kind; sign = 0; low = 0; high = 0; width = width })) ≡ zero_of kind width
+pub zero-tree : (kind width : ℕ) {c : Constant} → c ≡ constant_of kind 0 0 0 0
+    → as_tree (ok (record { kind = c.kind; sign = c.sign; low = c.low; high = c.high; width = width })) ≡ zero_of kind width
 unfolding as_tree zero_of constant_of
-zero-tree kind width = refl
+zero-tree kind width e = rw e
 
 pub integer-tree : (c : Constant) → as_tree (ok (record { kind = 1; sign = c.sign; low = c.low; high = c.high; width = 0 })) ≡ ok (as_integer_tree c)
 unfolding as_tree as_integer_tree constant_of
@@ -56,13 +61,14 @@ module _ (s : Shape) (least : Constant) (member setting : ℕ) where
   from-reference e c h = rw (e, h)
 
   module _ {first count default underlying : ℕ} (e : s ≡ shape.Enumeration first count default underlying) where
-    pub from-enumeration : (c : Constant) → constant_tree c ≡ enumerated_tree member 0 → default < count → as_tree (ok c) ≡ implicit_by s least member setting
+    pub from-enumeration : (c : Constant) → constant_tree c ≡ enumerated_tree member 0 → {r : Option Constant} → r ≡ then_some (ltb default count) c
+        → as_tree (result_of r) ≡ implicit_by s least member setting
     unfolding implicit_by as_tree
-    from-enumeration c h l = rw (e, h, lt-ltb _ _ l)
-
-    pub past-members : count ≤ default → as_tree none ≡ implicit_by s least member setting
-    unfolding implicit_by as_tree
-    past-members l = rw (e, le-ltb _ _ l)
+    from-enumeration c h k = rw (e, k) (go (ltb default count))
+      where
+        go : (b : Bool) → as_tree (result_of (then_some b c)) ≡ pick b (ok (enumerated_tree member 0)) none
+        go true = rw h
+        go false = refl
 
   module _ {x : Outcome} where
     pub from_bool : s ≡ shape.Bool → x ≡ zero_of 0 0 → x ≡ implicit_by s least member setting
@@ -107,4 +113,4 @@ module _ (s : Shape) (least : Constant) (member setting : ℕ) where
         unfolding implicit_by
         from-date-and-time e h = rw (e, ← w) h
 
-pub ruleset laws = (rules, none-counted, zero-tree, integer-tree, from-other, from-string, from-reference, from-enumeration, past-members, from_bool, from-subrange, from_int, from-uint, from-real, from_bytes, from-time, from-date, from-time-of-day, from-date-and-time)
+pub ruleset laws = (rules, none-counted, zero-tree, integer-tree, from-other, from-string, from-reference, from-enumeration, from_bool, from-subrange, from_int, from-uint, from-real, from_bytes, from-time, from-date, from-time-of-day, from-date-and-time)

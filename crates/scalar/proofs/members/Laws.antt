@@ -13,7 +13,10 @@ use Rattle.std.specs.List.{list_any}
 use Rattle.std.proofs.lemmas.List.Folds.{list_any_more}
 use Rattle.definition.specs.declared.records.Constant.{Constant}
 use Rattle.definition.specs.Tree.{constant_tree, enumerated_tree}
-use Rattle.definition.specs.Ask.{ok, none}
+use Rattle.std.specs.Prelude.{Option}
+use Rattle.std.specs.Bool.{then_some}
+use Rattle.definition.specs.Base.{pick}
+use Rattle.definition.specs.Ask.{ok, none, result_of}
 use Rattle.definition.specs.Scalar.{as_tree}
 use Rattle.scalar.specs.Members.{among, is_named, enumerated_by}
 
@@ -24,17 +27,17 @@ among-taken names value zero h = refl
 among-taken names value (suc k) h =
     rw (← add-one, list_any_more (λ y. eqb y value) names k 0 (omega arith), among-taken names value k (omega arith))
 
-pub any-named : (names : List ℕ) (value : ℕ) {r : Bool} → r ≡ list_any (λ y. eqb y value) names → r ≡ is_named names value
+any-named : (names : List ℕ) (value : ℕ) {r : Bool} → r ≡ list_any (λ y. eqb y value) names → r ≡ is_named names value
 unfolding is_named
 any-named names value e = e ∙ (rw (take_all (length names) names (omega arith)) at (among-taken names value (length names) (omega arith)))
 
-module _ (names : List ℕ) (value qualifier : ℕ) {r : Bool} (h : r ≡ is_named names value) where
-  pub member-kept : (c : Constant) → r ≡ true → constant_tree c ≡ enumerated_tree value qualifier → as_tree (ok c) ≡ enumerated_by names value qualifier
-  unfolding enumerated_by as_tree
-  member-kept c e k = rw (← h, e, k)
+pub member-kept : (names : List ℕ) (value qualifier : ℕ) {b : Bool} → b ≡ list_any (λ y. eqb y value) names → (c : Constant) → constant_tree c ≡ enumerated_tree value qualifier
+    → {r : Option Constant} → r ≡ then_some b c → as_tree (result_of r) ≡ enumerated_by names value qualifier
+unfolding enumerated_by as_tree
+member-kept names value qualifier {b} e c h k = rw (k, ← any-named names value e) (go b)
+  where
+    go : (b : Bool) → as_tree (result_of (then_some b c)) ≡ pick b (ok (enumerated_tree value qualifier)) none
+    go true = rw h
+    go false = refl
 
-  pub member-none : r ≡ false → as_tree none ≡ enumerated_by names value qualifier
-  unfolding enumerated_by as_tree
-  member-none e = rw (← h, e)
-
-pub ruleset laws = (rules, any-named, member-kept, member-none)
+pub ruleset laws = (rules, member-kept)

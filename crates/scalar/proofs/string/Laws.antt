@@ -1,36 +1,36 @@
 -- A law for each return of string.rt. Assumes nothing.
 use mathlib.Core.Path.{◌≡◌, refl, sym}
 use mathlib.Core.List.{List, []}
-use Prim.Native.Nat.{ℕ, zero, suc, ◌+◌, ◌-◌, ◌*◌, ◌^◌, ◌≤◌, ◌<◌, min}
+use Prim.Native.Nat.{ℕ, suc, ◌+◌, ◌-◌, ◌*◌, ◌^◌, ◌≤◌, ◌<◌, min}
 use native.Mathlib.Nat.{le_of_lt, add-sub_cancel_left, min-le_left}
 use native.Mathlib.Omega.{arith}
 use borrow.Author.Rules.{rules}
-use borrow.Author.Tests.{le-leb, lt-leb, ne_eqb}
+use borrow.Author.Tests.{ne_eqb}
+use lib.Dec.{leb}
+use mathlib.Core.Bool.{Bool, true, false}
+use Rattle.std.specs.Bool.{then_some}
+use Rattle.definition.specs.Base.{pick}
 use lib.ListN.{length, take, drop, length-drop, drop_of_length-le}
 use lib.Seq.{take_all, take-nil, take-length}
 use Rattle.definition.specs.declared.records.Constant.{Constant}
 use Rattle.definition.specs.Records.{constant_of}
 use Rattle.definition.specs.Ask.{ok, none, result_of}
-use Rattle.std.specs.Prelude.{Option, Some, None}
+use Rattle.std.specs.Prelude.{Option}
 use Rattle.scalar.specs.String.{max_length_by, string_of, cut_by, Countable}
 
 -- ---- `max_length`
 module _ (setting : ℕ) where
-  pub undeclared : {length : ℕ} → length ≡ 0 → ok setting ≡ max_length_by setting length
+  pub undeclared : {length : ℕ} → (1 ≤ length → ⊥) → ok setting ≡ max_length_by setting length
   unfolding max_length_by
-  undeclared e = rw e
+  undeclared {length} n = let e : length ≡ 0 = omega (arith, n) in rw e
 
-  pub declared : (length : ℕ) → (length ≡ 0 → ⊥) → length - 1 ≤ 65535 → ok (length - 1) ≡ max_length_by setting length
+  pub declared : (length : ℕ) {n : ℕ} → (1 ≤ length) × (length - 1 ≡ n) → {r : Option ℕ} → r ≡ then_some (leb n 65535) n → result_of r ≡ max_length_by setting length
   unfolding max_length_by
-  declared zero n h = absurd (n refl)
-  declared (suc length) n h =
-      let e : suc length - 1 ≡ length = omega arith in
-      rw (e, le-leb length 65535 (omega arith))
-
-  pub above : (length : ℕ) → (length ≡ 0 → ⊥) → 65535 < length - 1 → none ≡ max_length_by setting length
-  unfolding max_length_by
-  above zero n h = absurd (n refl)
-  above (suc length) n h = rw (lt-leb length 65535 (omega arith))
+  declared length {n} h e = let l = h.0 in let m = h.1 in let q : length ≡ suc n = omega arith in rw (q, e) (go (leb n 65535))
+    where
+      go : (b : Bool) → result_of (then_some b n) ≡ pick b (ok n) none
+      go true = refl
+      go false = refl
 
 -- ---- `string_constant`
 module _ (first width : ℕ) {count : ℕ} where
@@ -43,15 +43,15 @@ module _ (first width : ℕ) {count : ℕ} where
   whole_run n = rw (ne_eqb _ _ n)
 
 -- ---- `cut_string`
-module _ (setting length width first count : ℕ) {r : Option ℕ} (h : result_of r ≡ max_length_by setting length) where
-  pub cut-none : r ≡ None → none ≡ cut_by setting length width first count
+module _ (setting length width first count : ℕ) where
+  pub cut-none : none ≡ max_length_by setting length → none ≡ cut_by setting length width first count
   unfolding cut_by
-  cut-none e = rw (← h, e)
+  cut-none e = rw (← e)
 
-  pub cut-value : {n : ℕ} → r ≡ Some n → {k : ℕ} → k ≡ min count n → {c : Constant} → c ≡ string_of first k (width + 2 * (count - k))
+  pub cut-value : {n : ℕ} → ok n ≡ max_length_by setting length → {k : ℕ} → k ≡ min count n → {c : Constant} → c ≡ string_of first k (width + 2 * (count - k))
       → ok c ≡ cut_by setting length width first count
   unfolding cut_by
-  cut-value e m s = rw (← h, e, s, m)
+  cut-value e m s = rw (← e, s, m)
 
 -- the characters cut are counted in a word
 pub held_below : (count n : ℕ) {k : ℕ} → k ≡ min count n → k ≤ count
@@ -80,4 +80,4 @@ module _ (xs : List ℕ) (first count most : ℕ) {n : ℕ} (e : n ≡ min count
   pub part_none : length xs < first → [] ≡ take (min count most) (drop first xs)
   part_none h = rw (drop_of_length-le xs (le_of_lt h), take-nil)
 
-pub ruleset laws = (rules, undeclared, declared, above, empty-run, whole_run, cut-none, cut-value, held_below, cut-doubled, cut-counted, part-whole, part_left, part_none)
+pub ruleset laws = (rules, undeclared, declared, empty-run, whole_run, cut-none, cut-value, held_below, cut-doubled, cut-counted, part-whole, part_left, part_none)

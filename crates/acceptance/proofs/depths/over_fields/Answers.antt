@@ -1,10 +1,8 @@
 -- `depths::over_fields` meets its contract. Assumes nothing.
+use mathlib.Core.Path.{ap}
 use borrow.Author.Rules.{rules}
-use Rattle.acceptance.specs.Nesting.{field_depth}
-use Rattle.acceptance.proofs.Nests.{deepest-in-run}
+use Rattle.acceptance.specs.Nesting.{depth_in, field_depth}
 use Rattle.acceptance.proofs.depths.over_fields.Goals as goal
 
 pub returns : goal.returns
-returns c =
-    let a = c.args in
-    deepest-in-run (field_depth a.file.now a.depths.now) a.first a.many _ _ c.max.ensures.ran c.map-below.ensures.source c.map-below.ensures.closure (λ x r q k. search rules) c.unwrap_or.ensures
+returns c = let a = c.args in c.over_run.ensures.is (field_depth a.file.now a.depths.now) a.first (λ j p k. ap (depth_in a.depths.now) (search rules))

@@ -6,7 +6,7 @@ use Rattle.declared.proofs.alias.subrange_default.Goals as goal
 
 pub over_base-requires : goal.over_base-requires
 over_base-requires c =
-    (c.requires.1, c.requires.3, omega (arith, c.requires.4, levels-some c.args.file.now.source c.args.place))
+    (c.requires.0, c.requires.2, omega (arith, c.requires.3, levels-some c.args.known.now.file c.args.place))
 
 pub returns : goal.returns
 returns c = search asked

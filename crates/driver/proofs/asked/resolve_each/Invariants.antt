@@ -2,12 +2,11 @@
 use mathlib.Core.Path.{◌≡◌}
 use lib.ListN.{length}
 use Rattle.definition.specs.Layout.{count, types}
-use Rattle.build.specs.Built.{index_in}
-use Rattle.driver.specs.Tables.{Front}
-use Rattle.driver.specs.Driver.{Given}
+use Rattle.lines.specs.Lines.{Lends}
+use Rattle.driver.specs.Driver.{Prepared}
 use Rattle.driver.specs.Asked.{Asking}
 use Rattle.driver.proofs.asked.resolve_each.Given as goal
 
 abbrev pub invariant-loop-t : goal.invariant-loop-t
-invariant-loop-t l =
-    Given l.file.source l.known (length l.room) × Asking l.file.source l.fn.only (index_in l.known) l.store l.end l.t × Front l.initial.known l.known × (l.many ≡ count l.file.source types) × (length l.known ≡ length l.initial.known) × (length l.store ≡ length l.initial.store) × (length l.room ≡ length l.initial.room)
+invariant-loop-t g l =
+    goal.F-IsAlwaysCallable g l.asks × Prepared l.file.source l.classes (length l.lines.index.now) (length l.room) × Asking l.file.source (goal.F-post g l.asks) l.lines.index.now l.lines.store.now l.lines.end l.t × Lends l.initial.lines l.lines × (l.many ≡ count l.file.source types) × (length l.room ≡ length l.initial.room)

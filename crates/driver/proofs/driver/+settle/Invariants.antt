@@ -1,18 +1,17 @@
 -- `driver::settle` meets its contract. Assumes nothing.
 use mathlib.Core.Path.{◌≡◌}
 use lib.ListN.{length}
-use Rattle.build.specs.Built.{index_in}
-use Rattle.driver.specs.Tables.{Front}
-use Rattle.driver.specs.Driver.{zeros, Given}
+use Rattle.lines.specs.Lines.{Lends}
+use Rattle.driver.specs.Driver.{zeros, Prepared}
 use Rattle.driver.proofs.Settling.{Goes}
 use Rattle.driver.proofs.driver.+settle.Given as goal
 
 abbrev pub decreases-settle : goal.decreases-settle
-decreases-settle l = zeros (index_in l.known.now)
+decreases-settle l = zeros l.lines.now.index.now
 
 abbrev pub invariant-loop-d : goal.invariant-loop-d
 invariant-loop-d l =
-    Given l.file.source l.known (length l.room) × Goes l.file.source l.t (index_in l.initial.known) l.initial.store l.end (index_in l.known) l.store l.last × Front l.initial.known l.known × (length l.known ≡ length l.initial.known) × (length l.store ≡ length l.initial.store) × (length l.room ≡ length l.initial.room)
+    Prepared l.file.source l.classes (length l.lines.index.now) (length l.room) × Goes l.file.source l.t l.initial.lines.index.now l.initial.lines.store.now l.initial.lines.end l.lines.index.now l.lines.store.now l.lines.end × Lends l.initial.lines l.lines × (length l.room ≡ length l.initial.room)
 
 abbrev pub decreases-loop-d : goal.decreases-loop-d
-decreases-loop-d l = zeros (index_in l.known)
+decreases-loop-d l = zeros l.lines.index.now

@@ -1,10 +1,7 @@
 -- `copies::array_head` meets its contract. Assumes nothing.
-use borrow.Author.Rules.{rules}
-use Rattle.gather.proofs.Arrays.{heads-ends, heads-fails}
+use Rattle.build.proofs.Peeks.{some-of}
+use Rattle.gather.proofs.Arrays.{head-ends}
 use Rattle.gather.proofs.copies.array_head.Goals as goal
 
-pub returns-in_err-values : goal.returns-in_err-values
-returns-in_err-values c = heads-fails c.args.at c.args.from c.in_err-values.was (search rules)
-
 pub returns : goal.returns
-returns c = heads-ends c.args.at c.args.from c.in_ok-values.was c.put_head.ensures
+returns c = let s = c.args in head-ends s.values.end s.values.made s.at s.from c.min.ensures c.write_array.ensures (some-of c.ok_or.ensures.value c.in_ok-ok_or.was)

@@ -1,6 +1,6 @@
 -- `copies::copy_fields` meets its contract. Assumes nothing.
 use borrow.Author.Rules.{rules}
-use Rattle.gather.proofs.Onward.{some-of, none-of}
+use Rattle.build.proofs.Peeks.{some-of, none-of}
 use Rattle.gather.proofs.Copying.{fields-end, fields-not}
 use Rattle.gather.proofs.copies.copy_fields.Goals as goal
 

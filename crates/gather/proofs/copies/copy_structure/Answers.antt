@@ -1,6 +1,6 @@
 -- `copies::copy_structure` meets its contract. Assumes nothing.
 use borrow.Author.Rules.{rules}
-use Rattle.gather.proofs.Onward.{some-of, none-of}
+use Rattle.build.proofs.Peeks.{some-of, none-of}
 use Rattle.gather.proofs.Copying.{structure-none, structure-other, structure-taken}
 use Rattle.gather.proofs.copies.copy_structure.Goals as goal
 

@@ -3,7 +3,7 @@ use Prim.Native.Nat.{suc, ◌+◌, ◌-◌}
 use mathlib.Core.Path.{◌≡◌}
 use native.Mathlib.Omega.{arith}
 use borrow.Author.Rules.{rules}
-use Rattle.gather.proofs.Gathering.{each_first, each_all, each-fails, each_more}
+use Rattle.gather.proofs.Gathering.{each_first, each_all, each-fails, each_on}
 use Rattle.gather.proofs.copies.each_default.Goals as goal
 
 pub loop-init : goal.loop-init
@@ -21,7 +21,7 @@ loop-preserved c =
     let t = c.args.times in
     let n = c.loop.counter in
     let h : t - n ≡ suc (t - (n + 1)) = omega (arith, c.loop-test.true) in
-    each_more c.loop.invariant h c.next_default.ensures c.in_ok-next.was c.next_default.auto.room c.moved_on.ensures
+    each_on c.loop.invariant h c.next_default.ensures c.in_ok-next.was c.next_default.auto.room c.moved_on-now.ensures.is c.moved_on-now.ensures.moves
 
 pub returns : goal.returns
 returns c = each_all c.loop.invariant (omega (arith, c.loop-test.false))

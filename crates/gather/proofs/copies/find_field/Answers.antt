@@ -1,9 +1,8 @@
 -- `copies::find_field` meets its contract. Assumes nothing.
-use Rattle.gather.proofs.Members.{laws}
 use Rattle.gather.proofs.copies.find_field.Goals as goal
 
-pub returns-in_err-inner : goal.returns-in_err-inner
-returns-in_err-inner c = search (laws, c.in_ok-span.was, c.in_err-inner.was)
+pub named_field-requires : goal.named_field-requires
+named_field-requires c = rw (c.file.ensures.is, c.classes.ensures) (c.file.ensures.ready.classed, c.requires)
 
 pub returns : goal.returns
-returns c = search (laws, c.in_ok-span.was, c.in_ok-inner.was)
+returns c = rw c.file.ensures.is at c.named_field.ensures

@@ -8,5 +8,5 @@ lay_out-requires c = search placing
 pub returns-in-Some : goal.returns-in-Some
 returns-in-Some c = search placing
 
-pub returns-in-None : goal.returns-in-None
-returns-in-None c = search placing
+pub returns-in_default : goal.returns-in_default
+returns-in_default c = search placing

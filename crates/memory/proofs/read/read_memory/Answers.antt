@@ -1,6 +1,6 @@
 -- `read::read_memory` meets its contract. Assumes nothing.
 use borrow.Author.Rules.{rules}
-use Rattle.resolver.proofs.Answering.{cleared-same}
+use Rattle.lines.proofs.Memories.{cleared-same}
 use Rattle.memory.proofs.read.read_memory.Goals as goal
 
 pub returns-clause-lines : goal.returns-clause-lines

@@ -1,8 +1,7 @@
 -- `all::size_all` meets its contract. Assumes nothing.
-use Prim.Native.Nat.{◌*◌, ◌≤◌}
-use lib.ListN.{length}
+use Rattle.memory_forms.specs.Cells.{left}
 use Rattle.memory_bytes.proofs.Writing.{Summed}
 use Rattle.memory_bytes.proofs.all.size_all.Given as goal
 
-abbrev pub invariant-loop : goal.invariant-loop
-invariant-loop l = (l.nodes * 6 ≤ length l.tree) × (l.nodes * 6 ≤ length l.shapes) × Summed l.file l.tree l.shapes l.nodes l.sum l.at l.counter
+abbrev pub invariant-loop-cell : goal.invariant-loop-cell
+invariant-loop-cell l = Summed l.file (left l.cells) (left l.cell-iterator) l.sum

@@ -1,9 +1,9 @@
 -- `all::write_all` meets its contract. Assumes nothing.
 use mathlib.Core.Path.{◌≡◌}
-use Prim.Native.Nat.{◌*◌, ◌≤◌}
 use lib.ListN.{length}
+use Rattle.memory_forms.specs.Cells.{left}
 use Rattle.memory_bytes.proofs.Writing.{Written}
 use Rattle.memory_bytes.proofs.all.write_all.Given as goal
 
-abbrev pub invariant-loop : goal.invariant-loop
-invariant-loop l = (l.nodes * 6 ≤ length l.tree) × (l.nodes * 6 ≤ length l.shapes) × Written l.file l.tree l.shapes l.nodes l.initial.bytes l.at l.counter l.bytes l.end × (length l.bytes ≡ length l.initial.bytes)
+abbrev pub invariant-loop-cell : goal.invariant-loop-cell
+invariant-loop-cell l = Written l.file (left l.cells) l.initial.bytes (left l.cell-iterator) l.bytes l.end × (length l.bytes ≡ length l.initial.bytes)

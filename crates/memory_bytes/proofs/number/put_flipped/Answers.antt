@@ -1,15 +1,8 @@
 -- `number::put_flipped` meets its contract. Assumes nothing.
-use Rattle.memory_bytes.proofs.Numbering.{numbering}
+use borrow.Author.Rules.{rules}
+use Prim.Native.Nat.{◌-◌}
+use Rattle.memory_bytes.proofs.Numbering.{flipped-put}
 use Rattle.memory_bytes.proofs.number.put_flipped.Goals as goal
 
-pub loop-init : goal.loop-init
-loop-init c = search numbering
-
-pub put_byte-end-requires : goal.put_byte-end-requires
-put_byte-end-requires c = search numbering
-
-pub loop-preserved : goal.loop-preserved
-loop-preserved c = search numbering
-
 pub returns : goal.returns
-returns c = search numbering
+returns c = flipped-put c.args.count c.args.n (c.put_each.ensures.is (λ b. 255 - b) (λ b x h. search rules))

@@ -1,15 +1,7 @@
 -- `number::put_number` meets its contract. Assumes nothing.
-use Rattle.memory_bytes.proofs.Numbering.{numbering}
+use borrow.Author.Rules.{rules}
+use Rattle.memory_bytes.proofs.Numbering.{plain-put}
 use Rattle.memory_bytes.proofs.number.put_number.Goals as goal
 
-pub loop-init : goal.loop-init
-loop-init c = search numbering
-
-pub put_byte-end-requires : goal.put_byte-end-requires
-put_byte-end-requires c = search numbering
-
-pub loop-preserved : goal.loop-preserved
-loop-preserved c = search numbering
-
 pub returns : goal.returns
-returns c = search numbering
+returns c = plain-put c.args.count c.args.n (c.put_each.ensures.is (λ b. b) (λ b x h. search rules))

@@ -2,11 +2,11 @@
 use mathlib.Core.Path.{◌≡◌}
 use mathlib.Core.Bool.{true}
 use lib.ListN.{length}
-use Prim.Native.Nat.{◌-◌}
+use Rattle.memory_forms.specs.Cells.{left}
 use Rattle.memory_nodes.proofs.Along.{Along}
 use Rattle.memory_nodes.proofs.Loops.{Noding}
 use Rattle.memory_nodes.proofs.all.read_nodes.Given as goal
 
-abbrev pub invariant-loop : goal.invariant-loop
-invariant-loop l =
-    Along l.file.source l.tree l.shapes l.bytes l.at (l.nodes - l.counter) l.from true × Noding l.file.source l.tree l.shapes l.bytes l.nodes l.initial.out l.at l.counter l.from l.many l.out × (length l.out ≡ length l.initial.out)
+abbrev pub invariant-loop-cell : goal.invariant-loop-cell
+invariant-loop-cell l =
+    Along l.file l.bytes (left l.cell-iterator) l.from true × Noding l.file l.bytes (left l.cells) l.initial.out (left l.cell-iterator) l.from l.many l.end l.out × (length l.out ≡ length l.initial.out)

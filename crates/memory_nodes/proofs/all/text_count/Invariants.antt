@@ -1,9 +1,9 @@
 -- `all::text_count` meets its contract. Assumes nothing.
 use mathlib.Core.Bool.{true}
-use Prim.Native.Nat.{◌-◌}
+use Rattle.memory_forms.specs.Cells.{left}
 use Rattle.memory_nodes.proofs.Along.{Along}
 use Rattle.memory_nodes.proofs.Loops.{Counting}
 use Rattle.memory_nodes.proofs.all.text_count.Given as goal
 
-abbrev pub invariant-loop : goal.invariant-loop
-invariant-loop l = Along l.file.source l.tree l.shapes l.bytes l.at (l.nodes - l.counter) l.from true × Counting l.file.source l.tree l.shapes l.bytes l.nodes l.at l.counter l.from l.total
+abbrev pub invariant-loop-cell : goal.invariant-loop-cell
+invariant-loop-cell l = Along l.file l.bytes (left l.cell-iterator) l.from true × Counting l.file l.bytes (left l.cells) (left l.cell-iterator) l.from l.total

@@ -5,5 +5,5 @@ use Rattle.memory_nodes.proofs.put.put_text.Goals as goal
 pub short_from-many-requires : goal.short_from-many-requires
 short_from-many-requires c = search texts
 
-pub returns-in-String : goal.returns-in-String
-returns-in-String c = search texts
+pub returns : goal.returns
+returns c = search texts

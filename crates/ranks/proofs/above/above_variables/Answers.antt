@@ -5,4 +5,4 @@ use Rattle.ranks.proofs.Raising.{variables_over}
 use Rattle.ranks.proofs.above.above_variables.Goals as goal
 
 pub returns : goal.returns
-returns c = let a = c.args in variables_over a.file.now _ a.first a.many a.high _ _ c.fold.ensures.ran refl (λ s x b q k. search rules)
+returns g c = let a = c.args in variables_over a.file.now _ a.first a.many a.high _ _ c.fold.ensures.ran refl (λ s x b q k. search rules)

@@ -1,6 +1,6 @@
 -- `lent::with_lent` meets its contract. Assumes nothing.
 use borrow.Author.Rules.{rules}
-use Rattle.resolver.proofs.Answering.{cleared-same}
+use Rattle.lines.proofs.Memories.{cleared-same}
 use Rattle.resolver.proofs.lent.with_lent.Goals as goal
 
 pub returns-clause-lines : goal.returns-clause-lines

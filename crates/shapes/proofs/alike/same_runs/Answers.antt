@@ -6,9 +6,6 @@ use Rattle.shapes.proofs.Comparing.{runs-are}
 use Rattle.records.proofs.Ranging.{every-in-range}
 use Rattle.shapes.proofs.alike.same_runs.Goals as goal
 
-pub all-requires-clause-callable : goal.all-requires-clause-callable
-all-requires-clause-callable g c = record { at = λ xs t q x u y f e. record { at = λ a. c.requires.pre q.0.now a.0 a.1.0 a.1.1.0 } }
-
 pub returns : goal.returns
 returns g c =
     record {

@@ -1,6 +1,6 @@
 -- `check::check_sheet` meets its contract. Assumes nothing.
 use borrow.Author.Rules.{rules}
-use Rattle.resolver.proofs.Answering.{cleared-same}
+use Rattle.lines.proofs.Memories.{cleared-same}
 use Rattle.sheet.proofs.check.check_sheet.Goals as goal
 
 pub returns-clause-room : goal.returns-clause-room

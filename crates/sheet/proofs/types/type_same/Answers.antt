@@ -2,8 +2,8 @@
 use Rattle.sheet.proofs.Telling.{telling}
 use Rattle.sheet.proofs.types.type_same.Goals as goal
 
-pub work_out-built-requires : goal.work_out-built-requires
-work_out-built-requires c = search telling
+pub type_built-built-requires : goal.type_built-built-requires
+type_built-built-requires c = search telling
 
 pub overflow_add-at : goal.overflow_add-at
 overflow_add-at c = search telling

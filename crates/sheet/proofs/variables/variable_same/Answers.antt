@@ -2,8 +2,8 @@
 use Rattle.sheet.proofs.Telling.{telling}
 use Rattle.sheet.proofs.variables.variable_same.Goals as goal
 
-pub variable-built-requires : goal.variable-built-requires
-variable-built-requires c = search telling
+pub variable_built-built-requires : goal.variable_built-built-requires
+variable_built-built-requires c = search telling
 
 pub built_same-requires : goal.built_same-requires
 built_same-requires c = search telling
