@@ -160,7 +160,7 @@ module _ (d : ℕ → ℕ) (n : ℕ) (s : List ℕ) (e : s ≡ table_of d n) whe
   lower-at : (j : ℕ) → j < n → depth_in s j ≡ d j
   lower-at j l = rw e (table_at d n j 0 l)
 
-  shallow-table : ((k : ℕ) → k < n → d k ≤ 8192) → Shallow s
+  pub shallow-table : ((k : ℕ) → k < n → d k ≤ 8192) → Shallow s
   shallow-table h = rw e (record { most = λ k. go k (ltb k n) refl })
     where
       go : (k : ℕ) (b : Bool) → ltb k n ≡ b → depth_in (table_of d n) k ≤ 8192
@@ -205,7 +205,7 @@ module _ (f : List ℕ) {a b : ℕ} (e : a ≡ deepest (entry_depth f) 0 (count 
   unfolding levels
   levels-are = rw (e, h) (omega arith)
 
-  levels-fit : Accepted f → a + b ≤ 9216
+  pub levels-fit : Accepted f → a + b ≤ 9216
   unfolding levels
   levels-fit k = omega (arith, levels-are, levels-most f k)
 

@@ -17,5 +17,6 @@ use tree::node::write_leaf;
 pub fn put_leaf(leaf: Option<Constant>, room: &mut [u32], at: usize) -> Result<usize, Unbuilt>
     ensures { PutsLeaf leaf at room.old result room.new }
 {
-    write_leaf(room, at, leaf.ok_or(Unbuilt::None)?).ok_or(Unbuilt::None)
+    let c = leaf.ok_or(Unbuilt::None)?;
+    write_leaf(room, at, c).ok_or(Unbuilt::None)
 }

@@ -14,11 +14,11 @@ ghost use Rattle.conversion.specs.Convert.{Both, value_at, convert_refused, conv
 use acceptance::accept::held;
 use acceptance::admit::admit;
 use definition::answers::Refusal;
-use definition::layout::{CONSTANTS, SHAPES};
+use definition::layout::{CONSTANTS, NODE_WORDS, SHAPES};
 use definition::records::Constant;
 use places::values::constant_value;
 use records::file::File;
-use tree::node::write_leaf;
+use scalar::node::node;
 
 fn value_at(file: &File<'_>, shape: u32, constant: u32) -> Option<Constant>
     requires { Both file.now.source shape constant }
@@ -48,7 +48,10 @@ fn put(c: Constant, out: &mut [u32]) -> Result<Option<usize>, Refusal>
     ensures says { tree_says result ≡ tree_answer (ok (constant_tree c)) (length out.old) }
     ensures wrote { out.new ≡ over (flatten (constant_tree c)) out.old }
 {
-    write_leaf(out, 0, c).ok_or(Refusal::Short)?;
+    if out.len() < NODE_WORDS {
+        return Err(Refusal::Short);
+    }
+    out[..NODE_WORDS].copy_from_slice(&node(c));
     Ok(Some(1))
 }
 

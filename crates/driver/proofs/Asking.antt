@@ -93,7 +93,7 @@ module _ (f : List ℕ) where
   unfolding each_memo
   each-next asks t = refl
 
-  each-width : (asks : ℕ → Bool) (k t : ℕ) → width (each_memo f asks t) ≤ width (each_memo f asks (k + t))
+  pub each-width : (asks : ℕ → Bool) (k t : ℕ) → width (each_memo f asks t) ≤ width (each_memo f asks (k + t))
   each-width asks zero t = rw zero-add (omega arith)
   each-width asks (suc k) t = rw suc-add (rw (each-next asks (k + t)) (omega (arith, each-width asks k t, one-width f (each_memo f asks (k + t)) (k + t) asks)))
 
@@ -114,11 +114,11 @@ module _ (f : List ℕ) where
       go (known o) = refl
       go unknown = refl
 
-  declared-none : declared_memo f 0 ≡ empty (count f types)
+  pub declared-none : declared_memo f 0 ≡ empty (count f types)
   unfolding declared_memo ran declared_below asking run
   declared-none = refl
 
-  declared-all : declared_memo f (count f types) ≡ remembered f
+  pub declared-all : declared_memo f (count f types) ≡ remembered f
   unfolding declared_memo ran Resolve.remembered resolve_all
   declared-all = refl
 
@@ -126,14 +126,14 @@ module _ (f : List ℕ) where
   other_way true N L = refl
   other_way false N L = refl
 
-  declared-next : (t : ℕ) → declared_memo f (suc t) ≡ asked_one f (is_declared f) (declared_memo f t) t
+  pub declared-next : (t : ℕ) → declared_memo f (suc t) ≡ asked_one f (is_declared f) (declared_memo f t) t
   unfolding declared_memo ran declared_below asked_one
   declared-next t =
       let b = eqb (declaration_kind f t) 0 in
       let N = (run (resolve (body f) (count f types)) (empty (count f types)) (asking (declared_below f t))).memo in
       asking-append (resolve (body f) (count f types)) (declared_below f t) (pick b [] (t ∷ [])) (empty (count f types)) ∙ one_more N t b ∙ other_way b N (asked f N t)
 
-  declared-asked : (t : ℕ) → each_memo f (is_declared f) t ≡ declared_memo f t
+  pub declared-asked : (t : ℕ) → each_memo f (is_declared f) t ≡ declared_memo f t
   declared-asked zero = each-none (is_declared f) ∙ sym declared-none
   declared-asked (suc t) = each-next (is_declared f) t ∙ ap (λ (M : Memo). asked_one f (is_declared f) M t) (declared-asked t) ∙ sym (declared-next t)
 

@@ -9,6 +9,7 @@ use lib.Dec.{leb}
 use lib.Seq.{get_or-set_same, get_or-set_other, paste, take-take, length-take-le}
 use borrow.Author.Tests.{le-leb}
 use borrow.Author.Rules.{rules}
+use borrow.Rule.Slice.PartMut.{put_mid}
 use Rattle.definition.specs.Tree.{nodes, flatten}
 use Rattle.definition.specs.Ask.{ok, none, large, Outcome, Ask}
 use Rattle.definition.specs.Starting.{body}
@@ -25,9 +26,9 @@ use Rattle.lines.proofs.Memories.{remembers-none, remembers-large, remembers-tre
 use Rattle.build.specs.Built.{Built}
 use Rattle.build.specs.declared.built.Unbuilt.{Unbuilt}
 use Rattle.build.specs.declared.built.Unbuilt.TheVariants as unbuilt
-use Rattle.build.specs.Built.{index_in, Gives, Builds, Ready}
+use Rattle.build.specs.Built.{index_at, index_in, Gives, Builds, Ready}
 use Rattle.driver.specs.Tables.{Front}
-use Rattle.driver.proofs.Tabling.{front-classes}
+use Rattle.driver.proofs.Tabling.{front-classes, back_index}
 use Rattle.build.specs.Absent.{absent_of}
 use Rattle.driver.specs.Driver.{wanted_in, width, zeros, Holding, settled, resolved, After, Stores, EndsIn, Settles, Resolves, Given, Prepared, Held, Begun, Fresh}
 use Rattle.driver.proofs.Widths.{line-none, line-large, line-tree, zeros-less}
@@ -61,6 +62,12 @@ module _ {b : Built} {room index store : List ℕ} {end t : ℕ} {r : Option ℕ
       go unbuilt.None q h = record { appends = rw q h }
       go unbuilt.TooLarge q h = record { appends = rw q h }
       go (unbuilt.Wanted d) q h = record { appends = rw q tt }
+
+-- the index is put back
+pub stores_back : (tables : List ℕ) → index_at ≤ length tables → (part : List ℕ) → length part ≡ length (index_in tables)
+    → {b : Built} {room store : List ℕ} {end t : ℕ} {r : Option ℕ} {store' : List ℕ} → Stores b room (index_in tables) store end t r part store'
+    → Stores b room (index_in tables) store end t r (index_in (put_mid index_at (length tables - index_at) tables part)) store'
+stores_back tables h part l {b} {room} {store} {end} {t} {r} {store'} s = subst (λ (i : List ℕ). Stores b room (index_in tables) store end t r i store') (sym (back_index tables h part l)) s
 
 pub ruleset appending = (rules, ends-inside, stores-ends, stores-absent)
 

@@ -58,7 +58,7 @@ module _ (f : List ℕ) where
   unfolding ran
   asked-old M t e o q = subst (λ (N : Memo). at N e ≡ known o) (asked-run f M t) ((grown (body f) (count f types) (type_default t) M).old e o q)
 
-  every-next : (t : ℕ) → every_memo f (suc t) ≡ asked f (every_memo f t) t
+  pub every-next : (t : ℕ) → every_memo f (suc t) ≡ asked f (every_memo f t) t
   unfolding every_memo
   every-next t = refl
 

@@ -4,7 +4,7 @@ use mathlib.Core.List.{List, ◌++◌, append-nil}
 use Prim.Native.Nat.{ℕ, ◌+◌, ◌-◌, ◌≤◌, ◌<◌}
 use native.Mathlib.Omega.{arith}
 use lib.ListN.{length, get_or, take, drop, length-append, length-drop, drop_of_length-le}
-use lib.Seq.{get_or-take, length-take-le, take_all, take_at, drop_at}
+use lib.Seq.{get_or-take, get_or-drop, length-take-le, take_all, take_at, drop_at}
 use borrow.Author.Rules.{rules}
 use borrow.Rule.Slice.PartMut.{put_mid, same_len_mid, take_put, mid_len}
 use Rattle.definition.specs.Answers.{room_words}
@@ -27,6 +27,9 @@ tables-given {f} a r words c l =
 
 pub index-long : (known : List ℕ) → length (index_in known) ≡ length known - index_at
 index-long known = mid_len index_at (length known) known (omega arith)
+
+pub index_word : (known : List ℕ) (t d : ℕ) → index_at + t < length known → get_or (index_in known) t d ≡ get_or known (index_at + t) d
+index_word known t d h = get_or-take (length known - index_at) (drop index_at known) t d (omega arith) ∙ get_or-drop index_at known t d
 
 -- ---- the index put back
 module _ (known : List ℕ) (h : index_at ≤ length known) (part : List ℕ) (l : length part ≡ length (index_in known)) where

@@ -348,7 +348,7 @@ module _ {s : List ℕ} (from made more : ℕ) {k : ℕ} (c : k ≡ more - made)
       let n : made + k ≡ more = omega arith in
       rw (rest-rest made k ds, n) at (rest-there s from (rest made ds) d.end k (gathered-rest made ds d.whole).whole d.stands (omega (arith, many-rest made ds, d.count)))
 
-  moved-from : {b : ℕ} → x ≡ Some b → MovesOn s from made more b
+  pub moved-from : {b : ℕ} → x ≡ Some b → MovesOn s from made more b
   moved-from {b} i =
       record {
         says = λ places ds upto d h e.
@@ -357,7 +357,7 @@ module _ {s : List ℕ} (from made more : ℕ) {k : ℕ} (c : k ≡ more - made)
             record { end = d.end; stands = rw j at r.stands; before = d.before; whole = d.whole; count = d.count };
       }
 
-  moved-not : x ≡ None → (r : ℕ) → MovesOn s from made more r
+  pub moved-not : x ≡ None → (r : ℕ) → MovesOn s from made more r
   moved-not i r = record { says = λ places ds upto d h e. let n = moved-rest places ds upto d h e in let z : ◌≡◌ {A = ℕ} 0 1 = cc n.is in absurd (omega arith) }
 
   pub moved : {r : ℕ} → r ≡ unwrap_or x from → MovesOn s from made more r

@@ -13,11 +13,16 @@ use Rattle.std.specs.Prelude.{Err, Option}
 use Rattle.build.specs.declared.built.Unbuilt.TheVariants as unbuilt
 use Rattle.build.specs.Built.{Built, Builds}
 use Rattle.build.specs.Leaves.{PutsLeaf}
+use Rattle.initial.specs.Stated.{Lays}
 
 -- a value without parts
 pub leaf-builds : {f index store : List ℕ} {at : ℕ} {old : List ℕ} {r : Built} {new : List ℕ} {v : Option Constant} (m : Ask Outcome) → m ≡ done (as_tree (result_of v)) → at + 6 ≤ length old → PutsLeaf v at old r new
     → Builds f index store flatten m at old r new
 leaf-builds {v = v} m e h x = record { gives = λ M y. rw (e, peek-done M (as_tree (result_of v))) (x.gives h); kept = x.kept }
+
+-- what no memo is needed for
+pub laid : {f index store : List ℕ} {at : ℕ} {old : List ℕ} {r : Built} {new : List ℕ} (m n : Ask Outcome) → n ≡ m → Lays m at old r new → Builds f index store flatten n at old r new
+laid m n e h = record { gives = λ M x. rw e (h.gives M); kept = h.kept }
 
 pub no_value_lem : {f index store : List ℕ} {at : ℕ} {old : List ℕ} (m : Ask Outcome) → m ≡ nothing → Builds f index store flatten m at old (Err unbuilt.None) old
 no_value_lem m e = record { gives = λ M x. rw (e, peek-nothing M) (record { says = refl; stands = tt }); kept = refl }

@@ -2,7 +2,7 @@
 use mathlib.Core.Path.{◌≡◌, refl, ap, sym, subst, ◌∙◌}
 use mathlib.Core.Bool.{Bool, true, false, ◌&&◌}
 use mathlib.Core.List.{List, [], ◌∷◌, ◌++◌}
-use Prim.Native.Nat.{ℕ, ◌+◌, ◌-◌, ◌*◌, ◌%◌, ◌≤◌, ◌<◌}
+use Prim.Native.Nat.{ℕ, suc, ◌+◌, ◌-◌, ◌*◌, ◌%◌, ◌≤◌, ◌<◌}
 use native.Mathlib.Omega.{arith}
 use lib.Dec.{eqb, leb}
 use lib.ListN.{length, get_or, take, drop, drop_of_length-le}
@@ -20,6 +20,7 @@ use Rattle.memory_definition.specs.Numbers.{number_from, length_from, character_
 use Rattle.memory_definition.specs.Forms.{form_of, size_as, node_as, text_as, text_read, held, readable}
 use Rattle.memory_definition.specs.Memory.{size, readable_all, text_all}
 use Rattle.memory_laws.specs.Bytes.{Bytes, bytes-each}
+use Rattle.memory_laws.specs.InWords.{cell_in, cells_from}
 use Rattle.memory_laws.specs.Same.{SizedAs}
 use Rattle.memory_laws.specs.Placed.{Placed, PlacedAll, placed-form}
 use Rattle.memory_nodes.specs.Readable.{string_fills, fills}
@@ -45,6 +46,14 @@ module _ {f : List ℕ} {cs : List Cell} (bytes : List ℕ) (k : (i : ℕ) → F
   along-ready r = start r.placed r.read
 
 -- ---- one node more
+pub cells-next : (tree shapes : List ℕ) (at left : ℕ) → 0 < left → cells_from tree shapes at left ≡ cell_in tree shapes at ∷ cells_from tree shapes (at + 6) (left - 1)
+unfolding cells_from
+cells-next tree shapes at left h = let e : left ≡ suc (left - 1) = omega arith in ap (cells_from tree shapes at) e
+
+pub cells-none : (tree shapes : List ℕ) (at left : ℕ) → left ≤ 0 → cells_from tree shapes at left ≡ []
+unfolding cells_from
+cells-none tree shapes at left h = let e : left ≡ 0 = omega arith in ap (cells_from tree shapes at) e
+
 module _ (f : List ℕ) (c : Cell) (cs : List Cell) (bytes : List ℕ) (from : ℕ) {fm : Form} (e : fm ≡ form_of f c) where
   pub readable-next : readable_all f (c ∷ cs) (drop from bytes) ≡ readable f c (own fm bytes from) && readable_all f cs (drop (from + size_as fm) bytes)
   unfolding readable_all size

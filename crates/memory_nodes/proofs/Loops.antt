@@ -29,11 +29,11 @@ unfolding nodes_all node_words_of
 nodes-long f [] many bs = refl
 nodes-long f (c ∷ cs) many bs = omega (arith, nodes-long f cs (many + length (text_read f c (take (size f c) bs))) (drop (size f c) bs))
 
-text-none : (f : List ℕ) {cs : List Cell} (bs : List ℕ) → cs ≡ [] → text_all f cs bs ≡ []
+pub text-none : (f : List ℕ) {cs : List Cell} (bs : List ℕ) → cs ≡ [] → text_all f cs bs ≡ []
 unfolding text_all
 text-none f bs n = ap (λ l. text_all f l bs) n
 
-nodes-none : (f : List ℕ) {cs : List Cell} (many : ℕ) (bs : List ℕ) → cs ≡ [] → nodes_all f many cs bs ≡ []
+pub nodes-none : (f : List ℕ) {cs : List Cell} (many : ℕ) (bs : List ℕ) → cs ≡ [] → nodes_all f many cs bs ≡ []
 unfolding nodes_all
 nodes-none f many bs n = ap (λ l. nodes_all f many l bs) n
 

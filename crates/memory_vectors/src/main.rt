@@ -12,7 +12,7 @@ use variable::Variable;
 use vector_io::answers::{
     LENT, MOST_LINES, MOST_ROOM, holds, is_lent, judged, print_replayed, replay,
 };
-use vector_io::{next_word, read_counted};
+use vector_io::{Word, next_word, read_counted, read_words};
 
 // More words than any stored file has, and than any of its nodes or characters; more bytes than any variable has.
 const MOST_WORDS: usize = 512;
@@ -65,6 +65,12 @@ fn is_read(answer: Result<Option<usize>, Refusal>, stored: Stored) -> bool {
     }
 }
 
+// The words of the input are the front of `out`, and the rest is what it was. A count that is above what `out` has is wrong, and as many words are read as `out` has.
+fn holds_front<T: Word>(rt: &impl Input, out: &[T], count: usize, lent: T) -> io::Result<bool> {
+    let same = holds(rt, out, count.min(out.len()), lent)?;
+    Ok(same & (count <= out.len()))
+}
+
 // What the writer answers for a variable, and so many bytes of the input in the slice.
 fn writes(
     rt: &impl Input,
@@ -74,7 +80,7 @@ fn writes(
     count: usize,
 ) -> io::Result<bool> {
     let answer = variable.write(bytes);
-    Ok(is_written(answer, stored) & holds(rt, bytes, count, LENT_BYTE)?)
+    Ok(is_written(answer, stored) & holds_front(rt, bytes, count, LENT_BYTE)?)
 }
 
 // One byte too few; where no byte is written, none at all.
@@ -133,18 +139,21 @@ fn reads(rt: &impl Input, variable: &mut Variable<'_>, bytes: &[u8]) -> io::Resu
     let answer = variable.read(bytes, &mut nodes, &mut characters);
     let stored = next_stored(rt)?;
     let node_words = next_word(rt)? as usize;
-    let same_nodes = holds(rt, &nodes, node_words, LENT)?;
+    let same_nodes = holds_front(rt, &nodes, node_words, LENT)?;
     let text = next_word(rt)? as usize;
-    let same_text = holds(rt, &characters, text, LENT)?;
+    let same_text = holds_front(rt, &characters, text, LENT)?;
     let whole = is_read(answer, stored) & same_nodes & same_text;
     Ok(whole & reads_short(variable, bytes, node_words, text))
 }
 
+// Behind the end of the input the count and each byte are 0.
 fn replay_read(rt: &impl Input, variable: &mut Variable<'_>) -> io::Result<bool> {
     let mut bytes = [0u8; MOST_BYTES];
-    let Some(read) = read_counted(rt, &mut bytes)? else {
+    let count = next_word(rt)? as usize;
+    let Some(read) = bytes.get_mut(..count) else {
         return Ok(false);
     };
+    read_words(rt, read)?;
     reads(rt, variable, read)
 }
 

@@ -2,4 +2,3 @@ pub mod Chains
 pub mod Kept
 pub mod Others
 pub mod Steps
-pub mod Views

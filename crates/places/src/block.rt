@@ -12,7 +12,6 @@ use definition::layout::{BLOCK_FIELDS, INLINE, TYPES};
 use definition::records::Place;
 use records::file::File;
 use records::source::Source;
-use std::iter::successors;
 
 // So many records of a section from one on.
 #[derive(Clone, Copy)]
@@ -28,12 +27,19 @@ fn has_block(file: &Source<'_>, t: u32) -> bool
 }
 
 // The type with a block record that alias bases lead to from t; none in a circle without one.
+#[tactic(auto, using(crate::proofs::block::Laws::following))]
 pub fn recorded_block(file: &Source<'_>, t: u32) -> Option<u32>
     ensures { link_of result ≡ recorded_block file.now t }
 {
-    successors(Some(t), |at| linked(file, TYPES, *at, 1))
-        .take(file.count(TYPES) as usize)
-        .find(|at| has_block(file, *at))
+    let many = file.count(TYPES);
+    let mut at = t;
+    for _ in 0..many {
+        if has_block(file, at) {
+            return Some(at);
+        }
+        at = linked(file, TYPES, at, 1)?;
+    }
+    None
 }
 
 // The fields of a type with a block record.

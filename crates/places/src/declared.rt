@@ -11,18 +11,15 @@ ghost use Rattle.places.specs.Links.{link_of};
 use crate::block::Run;
 use crate::named::{first_named, led_to, linked};
 use definition::layout::{ELEMENTS, INITIALIZERS, INLINE, TYPES};
-use definition::records::{Declaration, Initializer};
 use records::file::File;
 use records::source::Source;
-use std::iter::successors;
 
 // What a simple declaration's function block or structure initializer names.
 fn simple_target(file: &Source<'_>, i: u32) -> Option<u32>
     ensures { link_of result ≡ simple_target file.now i }
 {
-    match file.initializer(i) {
-        Initializer::FunctionBlock { .. } => linked(file, INITIALIZERS, i, 1),
-        Initializer::Structure { .. } => linked(file, INITIALIZERS, i, 1),
+    match file.word(INITIALIZERS, i, 0) {
+        7..=8 => linked(file, INITIALIZERS, i, 1),
         _ => None,
     }
 }
@@ -31,11 +28,10 @@ fn simple_target(file: &Source<'_>, i: u32) -> Option<u32>
 fn declared_target(file: &Source<'_>, t: u32) -> Option<u32>
     ensures { link_of result ≡ declared_target file.now t }
 {
-    let d = file.declaration(t);
-    let Declaration::Simple { initializer } = d else {
+    if file.word(TYPES, t, 4) != 1 {
         return None;
-    };
-    let i = led_to(initializer)?;
+    }
+    let i = linked(file, TYPES, t, 6)?;
     simple_target(file, i)
 }
 
@@ -43,7 +39,10 @@ fn declared_target(file: &Source<'_>, t: u32) -> Option<u32>
 pub fn alias_target(file: &Source<'_>, t: u32) -> Option<u32>
     ensures { link_of result ≡ alias_target file.now t }
 {
-    linked(file, TYPES, t, 1).or(declared_target(file, t))
+    if let Some(base) = linked(file, TYPES, t, 1) {
+        return Some(base);
+    }
+    declared_target(file, t)
 }
 
 // The initializer of the element of that name in a structure's declaration.
@@ -62,18 +61,23 @@ fn element_declaration(file: &File<'_>, name: u32, t: u32) -> Option<u32>
 fn is_structure(file: &Source<'_>, t: u32) -> bool
     ensures { result ≡ eqb (declaration_kind file.now t) 5 }
 {
-    matches!(file.declaration(t), Declaration::Structure { .. })
+    file.word(TYPES, t, 4) == 5
 }
 
 // The structure that aliases lead to from t.
-#[tactic(auto, using(crate::proofs::declared::Laws::walking))]
+#[tactic(auto, using(crate::proofs::declared::Laws::following))]
 fn declared_structure(file: &File<'_>, t: u32) -> Option<u32>
     ensures { link_of result ≡ declared_structure file.now.source t }
 {
     let most = file.declared + 1;
-    successors(Some(t), |at| alias_target(&file.source, *at))
-        .take(most)
-        .find(|at| is_structure(&file.source, *at))
+    let mut at = t;
+    for _ in 0..most {
+        if is_structure(&file.source, at) {
+            return Some(at);
+        }
+        at = alias_target(&file.source, at)?;
+    }
+    None
 }
 
 // The initializer that the declaration of a field states.

@@ -18,8 +18,8 @@ use crate::block::{Run, block_field_type};
 use crate::declared::{declared_element, declared_type, field_declaration};
 use crate::named::{first_named, led_to, linked};
 use crate::place::{bare, place_of, typed_place};
-use definition::layout::{INLINE, SHAPE_FIELDS, VARIABLES};
-use definition::records::{Initializer, Place, Shape};
+use definition::layout::{INITIALIZERS, INLINE, SHAPE_FIELDS, VARIABLES};
+use definition::records::{Place, Shape};
 use records::file::File;
 use records::source::Source;
 
@@ -108,8 +108,10 @@ fn type_place(file: &Source<'_>, v: u32) -> Option<Place>
 pub fn variable_place(file: &Source<'_>, v: u32, i: u32) -> Option<Place>
     ensures { result_of result ≡ variable_place file.now v i }
 {
-    match file.initializer(i) {
-        Initializer::String { length, width, .. } => string_place(length, width),
-        _ => type_place(file, v),
+    if file.word(INITIALIZERS, i, 0) != 4 {
+        return type_place(file, v);
     }
+    let length = file.word(INITIALIZERS, i, 6);
+    let width = file.word(INITIALIZERS, i, 7);
+    string_place(length, width)
 }

@@ -1,4 +1,4 @@
-// Whether an integer type or a subrange holds a number (`fits` of value_range.rs).
+// Whether an integer type or a subrange holds a number (`fits` of value_range.rs), on a sign and a size instead of an i128.
 #![tactic(auto)]
 
 ghost use Rattle.std.specs.Prelude.{◌≡◌, true, eqb};
@@ -48,20 +48,18 @@ pub fn fits(c: Constant, bits: u32, signed: bool) -> bool
     size(c) <= greatest
 }
 
-// A constant's number. A zero may have a sign.
-#[tactic(auto, unfolding(definition::specs::Iec::number, definition::specs::Scalar::value_of))]
-fn number(c: Constant) -> i128
-    ensures { result ≡ value_of c }
-{
-    let magnitude = size(c) as i128;
-    if negative(c) { -magnitude } else { magnitude }
-}
-
-// Whether a constant's number is at most another's.
+// Whether a constant's number is at most another's. Either may be a zero with a sign.
+#[tactic(auto, using(crate::proofs::range::Laws::at_most))]
 fn at_most(a: Constant, b: Constant) -> bool
     ensures { result ≡ le_z (value_of a) (value_of b) }
 {
-    number(a) <= number(b)
+    if negative(a) {
+        return !negative(b) || size(b) <= size(a);
+    }
+    if negative(b) {
+        return size(a) == 0 && size(b) == 0;
+    }
+    size(a) <= size(b)
 }
 
 // Whether a subrange holds a constant's number: its own bounds decide, and least above greatest holds nothing.

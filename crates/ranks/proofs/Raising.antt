@@ -24,12 +24,16 @@ use Rattle.definition.specs.Layout.{word, types, block_fields, elements, variabl
 use Rattle.definition.specs.Records.{alias_base, element_type, referenced_type, declaration_at, named_type}
 use Rattle.definition.specs.Uses.{linked, named_use, initializer_uses, element_uses, variable_uses, block_field_uses, declaration_uses, block_uses, uses, raise, rank_at}
 use Rattle.laws.specs.Ranks.{raise-append}
-use Rattle.ranks.specs.Above.{rank_in, start_uses, reference_uses, links_of}
+use Rattle.ranks.specs.Above.{line_rank, rank_in, start_uses, reference_uses, links_of}
 
 -- ---- a rank
 pub in_words : (words : List ℕ) (t : ℕ) {r : ℕ} → r ≡ get_or words t 0 → r ≡ rank_in words t
 unfolding rank_at
 in_words words t h = h
+
+pub in_lines : (index sheet : List ℕ) (t : ℕ) {w p r : ℕ} → w ≡ get_or index t 0 → p ≡ w - 2 → r ≡ get_or sheet p 0 → r ≡ line_rank index sheet t
+unfolding line_rank
+in_lines index sheet t e q h = rw (← e, ← q) h
 
 -- ---- links
 module _ (rank : ℕ → ℕ) (high : ℕ) where
@@ -80,7 +84,7 @@ module _ (rank : ℕ → ℕ) (high : ℕ) where
       unfolding reference_uses referenced_type
       reference-over n h = rw (← q, ne_eqb name d n) h
 
-pub ruleset raising = (rules, in_words, link-none, link-over, name-none, name-over, initializer-over, start_none, start-over, reference-none, reference-over)
+pub ruleset raising = (rules, in_words, in_lines, link-none, link-over, name-none, name-over, initializer-over, start_none, start-over, reference-none, reference-over)
 
 -- ---- a run: what its records leads, one after another
 used_in : (ℕ → List ℕ) → ℕ → ℕ → List ℕ

@@ -1,10 +1,10 @@
 // A number raised above the rank of each type that a record uses: the uses of the definition (specs/Uses.antt), record by record.
 #![tactic(auto, using(crate::proofs::Raising::raising))]
 
-ghost use Rattle.std.specs.Prelude.{◌≡◌, ℕ, ◌+◌};
+ghost use Rattle.std.specs.Prelude.{◌≡◌, ℕ, ◌+◌, ◌-◌};
 ghost use Rattle.definition.specs.Uses.{linked, named_use, initializer_uses, element_uses, variable_uses, block_field_uses, declaration_uses, block_uses, uses, raise};
 ghost use Rattle.definition.specs.Records.{declaration_at};
-ghost use Rattle.ranks.specs.Above.{rank_in, start_uses, reference_uses, links_of};
+ghost use Rattle.ranks.specs.Above.{line_rank, rank_in, start_uses, reference_uses, links_of};
 
 use definition::layout::{BLOCK_FIELDS, ELEMENTS, INITIALIZERS, INLINE, TYPES, VARIABLES};
 use definition::records::Declaration;
@@ -31,6 +31,28 @@ impl<'a> Ranks for &'a [u32] {
 
     fn rank(self, t: u32) -> u32 {
         rank_in(self, t)
+    }
+}
+
+// The lines of a sheet hold each type's rank at their heads, to which its word of an index leads (crate lines).
+#[derive(Clone, Copy)]
+pub struct LineRanks<'a> {
+    pub index: &'a [u32],
+    pub sheet: &'a [u32],
+}
+
+// The place that a word of an index leads to.
+fn place_of(word: u32) -> usize
+    ensures { result ≡ word - 2 }
+{
+    (word as usize).saturating_sub(2)
+}
+
+impl<'a> Ranks for LineRanks<'a> {
+    ghost rank_of = { λ lines. line_rank lines.index.now lines.sheet.now };
+
+    fn rank(self, t: u32) -> u32 {
+        word_at(self.sheet, place_of(word_at(self.index, t as usize)))
     }
 }
 

@@ -1,7 +1,7 @@
 -- A table that is filled from its front, one store a turn. Assumes nothing.
 use mathlib.Core.Path.{◌≡◌, refl, sym, ap, ◌∙◌}
 use mathlib.Core.List.{List, ◌++◌}
-use Prim.Native.Nat.{ℕ, suc, ◌+◌, ◌-◌, ◌≤◌, ◌<◌}
+use Prim.Native.Nat.{ℕ, zero, suc, ◌+◌, ◌-◌, ◌≤◌, ◌<◌}
 use native.Mathlib.Omega.{arith}
 use native.Mathlib.Numerals.{add-one}
 use lib.ListN.{length, get_or, set, take, drop, replicate, length-replicate, replicate-append-replicate}
@@ -41,5 +41,14 @@ zeroed-again {g} {n} {lent} {words} {last} i j z =
     let d : drop n words ≡ drop n lent = ap (drop n) i.is ∙ drop_at (table_of g n) (drop n lent) n (table-length g n) in
     let b : replicate {A = ℕ} n 0 ++ drop n (replicate (length lent) 0) ≡ replicate (length lent) 0 = rw e at (zeros-back n (length lent - n)) in
     j ∙ rw d (rw z b)
+
+zeros : (n : ℕ) → table_of (λ k. 0) n ≡ replicate n 0
+unfolding table_of
+zeros zero = refl
+zeros (suc n) = rw (zeros n, replicate-append-replicate {A = ℕ} n 1 0) (ap (λ (k : ℕ). replicate k 0) (add-one n))
+
+-- the same where the table of 0 was filled in too
+pub filled-again : {g : ℕ → ℕ} {n : ℕ} {lent words last : List ℕ} → Filled g n lent words → Filled (λ k. 0) n words last → lent ≡ replicate (length lent) 0 → last ≡ lent
+filled-again {n = n} i j z = zeroed-again i (rw (zeros n) at j.is) z
 
 pub ruleset filling = (rules, none_filled, one-filled, all-filled)

@@ -1,7 +1,7 @@
 -- Section starts: how far a section reaches, and one start after another. Assumes nothing.
-use mathlib.Core.Path.{◌≡◌, refl, sym, ◌∙◌}
-use mathlib.Core.List.{List}
-use Prim.Native.Nat.{ℕ, zero, suc, ◌+◌, ◌*◌, ◌^◌, ◌<◌, ◌≤◌}
+use mathlib.Core.Path.{◌≡◌, refl, sym, ap, ◌∙◌}
+use mathlib.Core.List.{List, map}
+use Prim.Native.Nat.{ℕ, zero, suc, ◌+◌, ◌-◌, ◌*◌, ◌^◌, ◌<◌, ◌≤◌}
 use native.Mathlib.Omega.{arith}
 use native.Mathlib.Decide.{ℕ_discrete}
 use native.Mathlib.Nat.{mul-le-mul}
@@ -9,8 +9,10 @@ use native.Mathlib.Numerals.{add-one}
 use lib.ListN.{get_or, set, replicate, length-set}
 use lib.Seq.{get_or-set_same, get_or-set_other}
 use borrow.Author.Rules.{rules}
+use Rattle.std.specs.List.{range_with_len}
+use Rattle.std.proofs.lemmas.List.FromFn.{get_or-map-range_with_len}
 use Rattle.definition.specs.Layout.{words_of_records, record_words, behind, count_at, count, word}
-use Rattle.records.specs.Starts.{StartsTo, StartsOf}
+use Rattle.records.specs.Starts.{StartsTo, StartsOf, StartsBehind}
 
 -- a record has at most eleven words
 pub words-most : (s : ℕ) → record_words s ≤ 11
@@ -85,4 +87,44 @@ module _ {f starts : List ℕ} (i : StartsOf f starts) (s : ℕ) (l : s < 14) wh
 pub ends_at : {f starts : List ℕ} → StartsOf f starts → count_at f 14 ≡ get_or starts 14 0
 ends_at i = sym (i.start 14 (omega arith))
 
+-- ---- starts behind the first
+module _ {f starts : List ℕ} (i : StartsBehind f starts) (s : ℕ) (l : s < 14) (n : s ≡ 0 → ⊥) where
+  before : s ≡ suc (s - 1)
+  before = omega arith
+
+  pub behind-is : get_or starts (s - 1) 0 ≡ count_at f s
+  behind-is = i.start (s - 1) (omega arith) ∙ ap (count_at f) (sym before)
+
+  pub behind-near : get_or starts (s - 1) 0 ≤ 2 ^ 40
+  behind-near = i.near (s - 1) (omega arith)
+
+pub kept-behind : {f all starts : List ℕ} → StartsOf f all → starts ≡ map (λ k. get_or all (k + 1) 0) (range_with_len 0 13) → StartsBehind f starts
+kept-behind {f} {all} {starts} i e = record {
+  start = λ k l. there k l ∙ i.start (k + 1) (omega arith) ∙ ap (count_at f) (add-one k);
+  near = λ k l. rw (there k l) (start-most i (k + 1) (omega arith) (omega arith));
+}
+  where
+    there : (k : ℕ) → k < 13 → get_or starts k 0 ≡ get_or all (k + 1) 0
+    there k l = rw e (get_or-map-range_with_len (λ k. get_or all (k + 1) 0) 0 13 k k 0 l (omega arith))
+
+pub first-at : (f : List ℕ) (s : ℕ) → s ≡ 0 → 0 ≡ count_at f s
+unfolding count_at
+first-at f s e = rw e
+
+pub ends-behind : (f : List ℕ) {a e : ℕ} → a ≡ count_at f 13 → e ≡ behind f 13 a → e ≡ count_at f 14
+unfolding count_at
+ends-behind f p q = rw (q, p)
+
+-- ---- reading from a start
+module _ (f : List ℕ) (s : ℕ) {a : ℕ} (e : a ≡ count_at f s) where
+  pub count-there : {r : ℕ} → r ≡ get_or f a 0 → r ≡ count f s
+  unfolding count
+  count-there q = rw (← e) q
+
+  pub word-there : (n k w : ℕ) {r : ℕ} → w ≡ record_words s → r ≡ get_or f (a + 1 + n * w + k) 0 → r ≡ word f s n k
+  unfolding word
+  word-there n k w p q = rw (← e, ← p) q
+
 pub ruleset starting = (rules, next_start, all-starts, start-most, count-is)
+
+pub ruleset reading = (rules, behind-is, behind-near, first-at, ends-behind, count-there)

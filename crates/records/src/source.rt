@@ -2,28 +2,38 @@
 ghost use Rattle.std.specs.Prelude.{◌≡◌, ◌+◌, ◌^◌, ◌<◌, ◌≤◌};
 ghost use Rattle.definition.specs.Layout as Layout;
 ghost use Rattle.definition.specs.Layout.{count_at};
+ghost use Rattle.records.specs.Starts.{StartsBehind};
 ghost use Rattle.records.specs.Words.{words_from};
 
-use crate::words::{find_sections, word_at};
-use definition::layout::record_words;
+use crate::words::{find_sections, section_end, word_at};
+use definition::layout::{CHARACTERS, record_words};
 use std::marker::Model;
 
-// A file and where each of its sections stands. Contracts see the file's words.
+// A file and where each of its sections behind the first stands; the first begins at 0. With no more than these a `File` has 128 bytes, so that an archive
+// for C moves it without a function of the C library. Contracts see the file's words.
 #[derive(Drop)]
 pub struct Source<'a> {
     words: &'a [u32],
-    starts: [usize; 15],
+    starts: [usize; 13],
 }
 
 impl<'a> Model for Source<'a> {
     ghost use Rattle.std.specs.Prelude.{List, ℕ};
-    ghost use Rattle.records.specs.Starts.{StartsOf};
+    ghost use Rattle.records.specs.Starts.{StartsBehind};
 
     ghost Value = { List ℕ };
 
     ghost view = { λ s. s.words.now };
 
-    ghost invariant = { λ s. StartsOf s.words.now s.starts };
+    ghost invariant = { λ s. StartsBehind s.words.now s.starts };
+}
+
+// Where the sections behind the first stand.
+fn starts_behind(words: &[u32]) -> [usize; 13]
+    ensures { StartsBehind words.now result }
+{
+    let starts = find_sections(words);
+    std::array::from_fn(|k| starts[k + 1])
 }
 
 impl<'a> Source<'a> {
@@ -32,7 +42,7 @@ impl<'a> Source<'a> {
     {
         Source {
             words,
-            starts: find_sections(words),
+            starts: starts_behind(words),
         }
     }
 
@@ -44,28 +54,33 @@ impl<'a> Source<'a> {
     }
 
     // Where the last section ends.
+    #[tactic(auto, using(crate::proofs::Starting::reading))]
     pub fn end(&self) -> usize
         ensures { result ≡ count_at self.now 14 }
     {
-        self.starts[14]
+        section_end(self.words, CHARACTERS, self.start(CHARACTERS))
     }
 
     // Where the count of a section stands; its records stand behind it.
+    #[tactic(auto, using(crate::proofs::Starting::reading))]
     pub fn start(&self, section: usize) -> usize
         requires { section < 14 }
         ensures is { result ≡ count_at self.now section }
         ensures near { result ≤ 2 ^ 40 }
     {
-        self.starts[section]
+        if section == 0 {
+            return 0;
+        }
+        self.starts[section - 1]
     }
 
     // How many records a section has.
-    #[tactic(auto, using(crate::proofs::Starting::starting))]
+    #[tactic(auto, using(crate::proofs::Starting::reading))]
     pub fn count(&self, section: usize) -> u32
         requires { section < 14 }
         ensures { result ≡ Layout.count self.now section }
     {
-        word_at(self.words, self.starts[section])
+        word_at(self.words, self.start(section))
     }
 
     // Word `place` of record `first + j`: in 64 bits, so that a run need not be inside its section.
@@ -73,7 +88,7 @@ impl<'a> Source<'a> {
         requires { (section < 14) × (place < 16) }
         ensures { result ≡ Layout.word self.now section (first + j) place }
     {
-        let at = self.starts[section];
+        let at = self.start(section);
         let number = (first as usize) + (j as usize);
         word_at(self.words, at + 1 + number * record_words(section) + place)
     }

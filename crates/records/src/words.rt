@@ -13,7 +13,7 @@ pub fn word_at(words: &[u32], at: usize) -> u32
 }
 
 // Where a section ends whose count stands at `at`.
-fn section_end(file: &[u32], section: usize, at: usize) -> usize
+pub fn section_end(file: &[u32], section: usize, at: usize) -> usize
     requires { at ≤ 2 ^ 40 }
     ensures is { result ≡ behind file.now section at }
     ensures near { result ≤ at + 2 ^ 36 }

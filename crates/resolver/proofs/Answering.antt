@@ -49,10 +49,10 @@ module _ (f : List ℕ) (section number lines room : ℕ) {n : ℕ} (q : n ≡ c
   asked-not {x} e h = rw (h, refused (ltb number n) x refusal.Missing e, ← q, fails (ltb number n) x refusal.Missing e)
 
   pub asked-so : {u : Unit {0}} → ◌≡◌ {A = std.Result (Unit {0}) Refusal} (Ok u) (pick (ltb number n) (Ok tt) (Err refusal.Missing)) → {m : ℕ} → m ≡ line_words f
-      → (r : std.Result (Unit {0}) Refusal) → refusal_in r ≡ need (leb m lines && leb (room_words f) room) 10 (λ u. 0)
+      → (r : std.Result (Unit {0}) Refusal) {w : ℕ} → refusal_in r ≡ need (leb m lines && leb (room_words f) w) 10 (λ u. 0) → w ≡ room
       → refusal_in r ≡ need (ltb number (count f section)) 7 (λ u. need (enough f lines room) 10 λ w. 0)
   unfolding enough
-  asked-so e k r h = rw (← q, holds (ltb number n) refusal.Missing e, ← k) h
+  asked-so e k r h i = rw (← q, holds (ltb number n) refusal.Missing e, ← k, ← i) h
 
 -- ---- `admitted`
 pub admitted-by : (f : List ℕ) (section number lines room : ℕ) {answers : Bor File → std.Result (Unit {0}) Refusal → Type 0} {r : std.Result File Refusal} → Admits answers f r

@@ -28,8 +28,10 @@ fn write_completed(
     requires { Passed file.now.source Layout.variables v (length lines.old) (length room.old) }
     ensures { WritesCompleted file.now.source v (variable_outcome file.now.source v) out.old result out.new }
 {
-    let Some(end) = build_tree(file, Owner::Variable(v), lines, room)? else {
-        return Ok(None);
+    let end = match build_tree(file, Owner::Variable(v), lines, room) {
+        Ok(Some(end)) => end,
+        Ok(None) => return Ok(None),
+        Err(refusal) => return Err(refusal),
     };
     let Some(kind) = completion(&file.source, v, room, 0, end) else {
         return Ok(None);

@@ -23,7 +23,7 @@ use Rattle.definition.specs.Layout.{shapes, word}
 use Rattle.definition.specs.Records.{shape_of, shape_at}
 use Rattle.definition.specs.Accept.{same_member, same_dimension, listed, same_link, like_by, shapes_like}
 use Rattle.laws.specs.Cases.{never, by_kind}
-use Rattle.shapes.specs.Alike.{same_in, like_at, told_by_first, words_like, members_like, array_like, lowest}
+use Rattle.shapes.specs.Alike.{ListedBy, same_in, like_at, told_by_first, words_like, members_like, array_like, lowest}
 use Rattle.records.proofs.Listed.{more, agree_at, in-run, past}
 use Rattle.records.proofs.Scanning.{scans}
 
@@ -54,6 +54,9 @@ module _ (same : ℕ → ℕ → Bool) (a m b n : ℕ) where
   pub runs-are : m ≡ n → {r : Bool} → r ≡ every (λ j. same (a + j) (b + j)) m → r ≡ listed same a m b n
   unfolding listed
   runs-are e h = rw (eq-eqb m n e) h
+
+pub listed-at : {answers : ℕ → ℕ → ℕ → Bool → Type 0} {a m b n c k d l : ℕ} {r : Bool} → c ≡ a → k ≡ m → d ≡ b → l ≡ n → ListedBy answers c k d l r → ListedBy answers a m b n r
+listed-at p q s t x = rw (p, q, s, t) at x
 
 -- ---- kinds whose first word tells
 module _ {k : ℕ} where
@@ -169,12 +172,12 @@ module _ (f classes : List ℕ) (enumerated : Bool) (m n : ℕ) where
 
 -- ---- the lowest that meets a test
 module _ (p : ℕ → Bool) where
-  none-lower : (n : ℕ) → ((k : ℕ) → k < n → p k ≡ false) → lowest p n ≡ n
+  pub none-lower : (n : ℕ) → ((k : ℕ) → k < n → p k ≡ false) → lowest p n ≡ n
   unfolding lowest
   none-lower zero h = refl
   none-lower (suc n) h = rw (none-lower n (λ k l. h k (omega arith)), le-ltb n n (omega arith), h n (omega arith))
 
-  first-lower : (n i : ℕ) → i < n → p i ≡ true → ((k : ℕ) → k < i → p k ≡ false) → lowest p n ≡ i
+  pub first-lower : (n i : ℕ) → i < n → p i ≡ true → ((k : ℕ) → k < i → p k ≡ false) → lowest p n ≡ i
   unfolding lowest
   first-lower zero i l t h = absurd (omega arith)
   first-lower (suc n) i l t h = go (ℕ_discrete i n) (first-lower n i)

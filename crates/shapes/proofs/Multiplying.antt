@@ -5,16 +5,11 @@ use mathlib.Core.List.{List}
 use Prim.Native.Nat.{ℕ, zero, suc, ◌+◌, ◌-◌, ◌*◌, ◌^◌, ◌<◌, ◌≤◌, min}
 use native.Mathlib.Omega.{arith}
 use native.Mathlib.Nat.{mul-zero, le-mul_of_pos_right, min-eq_left, min-eq_right}
-use lib.Dec.{leb, eqb}
+use lib.Dec.{leb}
 use borrow.Author.Rules.{rules}
-use borrow.Author.Tests.{leb-true, leb-false, le-leb, lt-leb, ne_eqb}
+use borrow.Author.Tests.{leb-true, leb-false, le-leb, lt-leb, eq-eqb, ne_eqb}
 use Rattle.std.specs.List.{fold, range_with_len}
-use Rattle.definition.specs.Base.{choose}
 use Rattle.definition.specs.Layout.{shapes, dimensions, word}
-use Rattle.definition.specs.Records.{shape_of, shape_at}
-use Rattle.definition.specs.declared.records.Shape.{Shape}
-use Rattle.definition.specs.declared.records.Shape.TheVariants as shape
-use Rattle.laws.specs.Cases.{by_kind}
 use Rattle.records.proofs.Ranging.{fold-below}
 use Rattle.definition.specs.Accept.{biased, dimension_span, elements_of, array_small}
 
@@ -65,48 +60,14 @@ small_is n = go (leb n 65536) refl
     go true q = let l = leb-true n 65536 q in le-leb (min n 65537) 65536 (omega arith)
     go false q = let l = leb-false n 65536 q in lt-leb (min n 65537) 65536 (omega arith)
 
--- whether a shape is an array of no more elements than there may be, by what it is
-abbrev small_by : List ℕ → Shape → Bool
-small_by f (shape.Array element first count) = leb (elements_of f first count) 65536
-small_by f s = true
+module _ (f : List ℕ) (n : ℕ) {kind : ℕ} (is : kind ≡ word f shapes n 0) where
+  pub an-array : kind ≡ 12 → {first many e : ℕ} → first ≡ word f shapes n 2 → many ≡ word f shapes n 3 → e ≡ min (elements_of f first many) 65537 → leb e 65536 ≡ array_small f n
+  unfolding array_small
+  an-array k {first} {many} p q h = rw (← is, eq-eqb kind 12 k, ← p, ← q, h) (small_is (elements_of f first many))
 
-no-small : (f : List ℕ) (s : Shape) → ((element first count : ℕ) → s ≡ shape.Array element first count → ⊥) → true ≡ small_by f s
-no-small f shape.Bool h = refl
-no-small f (shape.Int a) h = refl
-no-small f (shape.UInt a) h = refl
-no-small f (shape.Real a) h = refl
-no-small f (shape.Bytes a) h = refl
-no-small f (shape.Time a) h = refl
-no-small f (shape.Date a) h = refl
-no-small f (shape.TimeOfDay a) h = refl
-no-small f (shape.DateAndTime a) h = refl
-no-small f (shape.String a b) h = refl
-no-small f (shape.Enumeration a b c d) h = refl
-no-small f (shape.Structure a b) h = refl
-no-small f (shape.Array a b c) h = absurd (h a b c refl)
-no-small f (shape.Subrange a b c) h = refl
-no-small f (shape.FunctionBlock a) h = refl
-no-small f (shape.Interface a) h = refl
-no-small f (shape.Reference a) h = refl
-no-small f shape.Unknown h = refl
-
-small-shape : (f : List ℕ) (n : ℕ) → array_small f n ≡ small_by f (shape_at f n)
-unfolding array_small shape_at shape_of
-small-shape f n =
-    by_kind 17
-    (λ k. choose (eqb k 12) (λ u. leb (elements_of f (word f shapes n 2) (word f shapes n 3)) 65536) (λ u. true)
-    ≡ small_by f (shape_of k (word f shapes n 1) (word f shapes n 2) (word f shapes n 3) (word f shapes n 4)))
-    refl refl refl refl refl refl refl refl refl refl refl refl refl refl refl refl refl (λ k. past-arrays _ (omega arith)) (word f shapes n 0)
-  where
-    past-arrays : (k : ℕ) → 12 < k → choose (eqb k 12) (λ u. leb (elements_of f (word f shapes n 2) (word f shapes n 3)) 65536) (λ u. true) ≡ true
-    past-arrays k l = rw (ne_eqb k 12 (λ z. absurd (omega arith)))
-
-module _ (f : List ℕ) (n : ℕ) {s : Shape} (is : s ≡ shape_at f n) where
-  pub an-array : {element first count e : ℕ} → s ≡ shape.Array element first count → e ≡ min (elements_of f first count) 65537 → leb e 65536 ≡ array_small f n
-  an-array {first = first} {count = count} q h = rw (small-shape f n, ← is, q, h) (small_is (elements_of f first count))
-
-  pub no-array : ((element first count : ℕ) → s ≡ shape.Array element first count → ⊥) → true ≡ array_small f n
-  no-array h = rw (small-shape f n, ← is) (no-small f s h)
+  pub no-array : (kind ≡ 12 → ⊥) → true ≡ array_small f n
+  unfolding array_small
+  no-array h = rw (← is, ne_eqb kind 12 h)
 
 pub ruleset multiplying = (rules, an-array, no-array)
 

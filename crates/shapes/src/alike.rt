@@ -68,7 +68,24 @@ pub fn same_dimension(file: &Source<'_>, a: u32, b: u32, j: u32) -> bool
     same_run_word(file, DIMENSIONS, a, b, j, 0) & same_run_word(file, DIMENSIONS, a, b, j, 1)
 }
 
-// The runs at word `place` of two shapes list the same: `same` compares records `a + j` and `b + j`.
+// Two runs list the same: `same` compares records `a + j` and `b + j`.
+pub fn same_run<F: Fn(u32, u32, u32) -> bool>(
+    same: F,
+    a: u32,
+    many: u32,
+    b: u32,
+    others: u32,
+) -> bool
+    requires { F.IsAlwaysCallable same }
+    ensures { ListedBy (F.post same) a many b others result }
+{
+    if many != others {
+        return false;
+    }
+    (0..many).all(|j| same(a, b, j))
+}
+
+// The runs at word `place` of two shapes list the same.
 pub fn same_runs<F: Fn(u32, u32, u32) -> bool>(
     file: &Source<'_>,
     same: F,
@@ -86,8 +103,5 @@ pub fn same_runs<F: Fn(u32, u32, u32) -> bool>(
     let many = file.word(SHAPES, m, place + 1);
     let b = file.word(SHAPES, n, place);
     let others = file.word(SHAPES, n, place + 1);
-    if many != others {
-        return false;
-    }
-    (0..many).all(|j| same(a, b, j))
+    same_run(same, a, many, b, others)
 }

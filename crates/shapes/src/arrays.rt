@@ -5,7 +5,6 @@ ghost use Rattle.std.specs.Prelude.{◌≡◌, ◌+◌, ◌^◌, ◌≤◌, min}
 ghost use Rattle.definition.specs.Accept.{dimension_span, elements_of, array_small, arrays_small};
 
 use definition::layout::{DIMENSIONS, SHAPES};
-use definition::records::Shape;
 use plain::words::biased;
 use records::source::Source;
 
@@ -46,10 +45,12 @@ pub fn elements(file: &Source<'_>, first: u32, many: u32) -> u64
 fn array_small(file: &Source<'_>, n: u32) -> bool
     ensures { result ≡ array_small file.now n }
 {
-    let Shape::Array { first, count, .. } = file.shape(n) else {
+    if file.word(SHAPES, n, 0) != 12 {
         return true;
-    };
-    elements(file, first, count) <= MOST_ELEMENTS
+    }
+    let first = file.word(SHAPES, n, 2);
+    let many = file.word(SHAPES, n, 3);
+    elements(file, first, many) <= MOST_ELEMENTS
 }
 
 // An array shape has more than 65,536 elements.

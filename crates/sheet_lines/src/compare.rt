@@ -11,5 +11,6 @@ pub fn line_same(line: &[u32], head: &[u32], nodes: &[u32]) -> bool
     let Some(behind) = line.strip_prefix(head) else {
         return false;
     };
-    behind == nodes
+    // The words are compared one by one: as many on both sides, and each the same.
+    behind.len() == nodes.len() && behind.iter().zip(nodes).all(|(a, b)| a == b)
 }

@@ -1,11 +1,17 @@
 -- Words that are put one behind the other. Assumes nothing.
 use mathlib.Core.Path.{◌≡◌, refl, ap, sym, ◌∙◌}
+use mathlib.Core.Bool.{Bool, true, ◌&&◌}
 use mathlib.Core.List.{List, ◌++◌, append_assoc}
 use Prim.Native.Nat.{ℕ, ◌+◌, ◌-◌, ◌≤◌}
 use native.Mathlib.Omega.{arith}
+use lib.Dec.{leb}
 use lib.ListN.{length, take, drop}
 use lib.Seq.{slice, take_at, take-take, take-append-add, drop-append-le, length-slice, length-take-le}
 use borrow.Author.Rules.{rules}
+use borrow.Author.Tests.{le-leb}
+use Rattle.std.specs.Prelude.{Option, Some}
+use Rattle.tree.specs.Words.{Copyable, WroteCopy}
+use Rattle.tree.proofs.Standing.{wrote-so-is}
 use Rattle.tree.proofs.Stands.{take-drop}
 use Rattle.laws.specs.Puts.{Puts, front_long, puts-rest, puts-long, put_one}
 
@@ -62,6 +68,24 @@ module _ {ws old : List ℕ} {b c : ℕ} {mid : List ℕ} (p : Puts ws old b c m
               ∙ ap (λ (l : List ℕ). l ++ ws ++ drop c old) (sym early-front)
               ∙ ap (λ (l : List ℕ). take b early ++ ws ++ l) (sym (puts-rest early-puts c (omega (arith, p.ends))));
         };
+      }
+
+-- nodes that were copied
+abbrev copy_test : List ℕ → ℕ → ℕ → List ℕ → ℕ → Bool
+copy_test from a n old at = leb (a + n) (length from) && leb (at + n) (length old)
+
+module _ (from old : List ℕ) (a at n : ℕ) (y : Copyable (length from) a (length old) at n) {x : Option ℕ} {new : List ℕ} (w : WroteCopy from a n old at x new) where
+  copy_test_lem : copy_test from a n old at ≡ true
+  copy_test_lem = rw (le-leb (a + n) (length from) y.source, le-leb (at + n) (length old) y.target)
+
+  pub nodes-put : {e : ℕ} → x ≡ Some e → Puts (slice a (a + n) from) old at e new
+  nodes-put {e} i =
+      let t = wrote-so-is (copy_test from a n old at) w i in
+      let k : length (slice a (a + n) from) ≡ n = length-slice a (a + n) from y.source ∙ omega arith in
+      record {
+        ends = omega (arith, t.1, k);
+        fits = omega (arith, t.1, y.target);
+        is = t.2 ∙ ap (λ (l : List ℕ). take at old ++ l ++ drop (at + n) old) (take-drop a n from) ∙ ap (λ (d : ℕ). take at old ++ slice a (a + n) from ++ drop d old) (sym t.1);
       }
 
 pub ruleset puts = (rules, put_one)

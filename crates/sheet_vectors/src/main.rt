@@ -7,7 +7,7 @@ use definition::answers::Refusal;
 use sheet::check::check_sheet;
 use std::io;
 use vector_io::answers::{LENT, MOST_ROOM, is_lent, judged, print_replayed, replay};
-use vector_io::{next_word, read_counted};
+use vector_io::{next_word, read_counted, read_words};
 use writer::sheet::write_sheet;
 
 // More words than any stored file or sheet has.
@@ -124,9 +124,14 @@ fn replay_file(
         return Ok(None);
     };
     let refused = next_word(rt)?;
-    let Some(sheet) = read_counted(rt, sheet)? else {
+    // Behind the end of the input the sheet has no words.
+    let count = next_word(rt)? as usize;
+    let Some(sheet) = sheet.get_mut(..count) else {
         return Ok(None);
     };
+    if !read_words(rt, sheet)? {
+        return Ok(None);
+    }
     Ok(Some(replay_sheet(rt, file, k, refused, sheet, out, lines, room)?))
 }
 

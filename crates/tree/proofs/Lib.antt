@@ -1,6 +1,7 @@
 pub mod Walks
 pub mod Stands
 pub mod Trees
+pub mod Copies
 pub mod Exact
 pub mod Writes
 pub mod Moves

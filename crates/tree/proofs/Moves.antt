@@ -1,5 +1,6 @@
 -- Whether words can be copied, and what stands where they are. Assumes nothing.
 use mathlib.Core.Path.{◌≡◌, sym, ◌∙◌}
+use mathlib.Core.Logic.{◌⊎◌, inl, inr}
 use mathlib.Core.Bool.{Bool, true, false, ◌&&◌}
 use Prim.Native.Nat.{ℕ, ◌+◌, ◌^◌, ◌≤◌, ◌<◌}
 use native.Mathlib.Omega.{arith}
@@ -7,7 +8,7 @@ use lib.Dec.{leb}
 use mir.Syntax.{w64}
 use mir.Val.{Fits}
 use borrow.Author.Tests.{leb-true, le-leb, lt-leb}
-use Rattle.laws.specs.Cases.{both}
+use Rattle.laws.specs.Cases.{both, either}
 use Rattle.tree.specs.Words.{Copyable, apart, movable}
 use Rattle.tree.proofs.Writes.{writes}
 
@@ -46,6 +47,11 @@ module _ {b : Bool} (len from n to : ℕ) (e : b ≡ movable len from n to) (t :
 
   pub move-target : to + n ≤ len
   move-target = tested.1
+
+  pub move-apart : (to ≤ from) ⊎ (from + n ≤ to)
+  move-apart =
+      let r = both (leb (from + n) len && leb (to + n) len) (apart from n to) (sym e ∙ t) in
+      either (leb to from) (leb (from + n) to) r.1 (λ h. inl (leb-true to from h)) (λ h. inr (leb-true (from + n) to h))
 
   pub source-fits : len < 2 ^ 64 → Fits w64 (from + n)
   source-fits h = let r = tested in record { fits = omega arith }

@@ -1,9 +1,8 @@
--- Words repeated: one move for each copy. Assumes nothing.
+-- Words repeated: copies that stand are moved behind themselves. Assumes nothing.
 use mathlib.Core.Path.{◌≡◌, refl, ap, sym, ◌∙◌}
 use mathlib.Core.List.{List, [], ◌++◌, append_assoc, append-nil}
-use Prim.Native.Nat.{ℕ, zero, suc, ◌+◌, ◌*◌, ◌-◌, ◌^◌, ◌≤◌, ◌<◌}
+use Prim.Native.Nat.{ℕ, zero, suc, min, ◌+◌, ◌*◌, ◌-◌, ◌^◌, ◌≤◌, ◌<◌}
 use native.Mathlib.Omega.{arith}
-use native.Mathlib.Numerals.{add-one}
 use native.Mathlib.Nat.{mul-le-mul_left, mul-add, mul-one, mul-zero, zero-mul, mul-suc}
 use lib.ListN.{length, take, drop, length-append, length-drop, take-append-drop}
 use lib.Seq.{paste, paste-zero, length-paste, take_all, take-take, take-add, take_at, drop_at, drop-drop, length-take-le}
@@ -16,6 +15,11 @@ pub rept-end : (k : ℕ) (w : List ℕ) → rept k w ++ w ≡ w ++ rept k w
 unfolding rept
 rept-end zero w = sym (append-nil w)
 rept-end (suc k) w = rw append_assoc (ap (λ (l : List ℕ). w ++ l) (rept-end k w))
+
+pub rept-add : (i n : ℕ) (w : List ℕ) → rept i w ++ rept n w ≡ rept (i + n) w
+unfolding rept
+rept-add zero n w = let z : zero + n ≡ n = omega arith in rw z
+rept-add (suc i) n w = let z : suc i + n ≡ suc (i + n) = omega arith in rw (z, append_assoc) (ap (λ (l : List ℕ). w ++ l) (rept-add i n w))
 
 pub length-rept : (k : ℕ) (w : List ℕ) → length (rept k w) ≡ length w * k
 unfolding rept
@@ -32,6 +36,12 @@ module _ (old : List ℕ) (at count : ℕ) where
     pub untouched : times ≡ 0 → out ≡ old
     pub long : length out ≡ length old
     pub is : out ≡ paste old at (rept i run) (count * i)
+
+  -- and so many are still to come
+  pub record Going (times i left : ℕ) (out : List ℕ) : Type 0 where
+    pub stand : Repeating times i out
+    pub rest : left ≡ times - i
+    pub few : 1 ≤ times → i ≤ times
 
 pub repeat-empty : (old : List ℕ) (at times : ℕ) {count : ℕ} → count ≡ 0 → old ≡ paste old at (rept times (take count (drop at old))) (count * times)
 repeat-empty old at times z = rw (z, zero-mul) (paste-zero old at (rept times []))
@@ -58,23 +68,29 @@ module _ {old : List ℕ} {at count times i : ℕ} {out : List ℕ} (g : Repeati
       go zero e = g.untouched e ∙ rw mul-zero (paste-zero old at [])
       go (suc n) e = let z : i ≡ suc n = omega arith in rw z at g.is
 
-  module _ (m : at + count * times ≤ length old) (h : i < times) where
+  module _ (m : at + count * times ≤ length old) {n : ℕ} (low : n ≤ i) (h : i + n ≤ times) where
     -- the words of the copies that stand, and of the next
-    words-next : at + count * i + count ≤ at + count * times
-    words-next = let z : i + 1 ≤ times = omega arith in omega (arith, mul-le-mul_left count z, mul-add count i 1, mul-one count)
+    words-next : at + count * i + count * n ≤ at + count * times
+    words-next = omega (arith, mul-le-mul_left count h, mul-add count i n)
 
     words-one : count ≤ count * i
     words-one = omega (arith, mul-le-mul_left count g.some, mul-one count)
 
-    pub run-room : at + count ≤ length out
-    run-room = omega (arith, words-next, words-one)
+    words-some : count * n ≤ count * i
+    words-some = mul-le-mul_left count low
 
-    pub next-room : at + count * i + (at + count - at) ≤ length out
-    next-room = omega (arith, words-next)
+    pub run-room : at + count * n ≤ length out
+    run-room = omega (arith, words-next, words-some, g.long)
+
+    pub next-room : at + count * i + (at + count * n - at) ≤ length out
+    next-room = omega (arith, words-next, g.long)
 
     module _ (l : length old < 2 ^ 64) where
-      pub run_fits : Fits w64 (at + count)
-      run_fits = record { fits = omega (arith, words-next, words-one) }
+      pub runs_fit : Fits w64 (count * n)
+      runs_fit = record { fits = omega (arith, words-next) }
+
+      pub run_fits : Fits w64 (at + count * n)
+      run_fits = record { fits = omega (arith, words-next) }
 
       pub words_fits : Fits w64 (count * i)
       words_fits = record { fits = omega (arith, words-next) }
@@ -85,52 +101,77 @@ module _ {old : List ℕ} {at count times i : ℕ} {out : List ℕ} (g : Repeati
     run_long : length (run old at count) ≡ count
     run_long = length-take-le count (drop at old) (simp length-drop (omega (arith, words-next, words-one)))
 
-    reps-long : length (rept i (run old at count)) ≡ count * i
-    reps-long = length-rept i (run old at count) ∙ ap (λ (k : ℕ). k * i) run_long
+    reps-long : (k : ℕ) → length (rept k (run old at count)) ≡ count * k
+    reps-long k = length-rept k (run old at count) ∙ ap (λ (c : ℕ). c * k) run_long
 
     abbrev to : ℕ
     to = at + count * i
 
     out-is : out ≡ (take at old ++ rept i (run old at count)) ++ drop to old
-    out-is = g.is ∙ rw (take_all (count * i) (rept i (run old at count)) (omega (arith, reps-long)))
+    out-is = g.is ∙ rw (take_all (count * i) (rept i (run old at count)) (omega (arith, reps-long i)))
 
     front_long : length (take at old ++ rept i (run old at count)) ≡ to
-    front_long = length-append (take at old) (rept i (run old at count)) ∙ omega (arith, reps-long, length-take-le at old (omega (arith, words-next)))
+    front_long = length-append (take at old) (rept i (run old at count)) ∙ omega (arith, reps-long i, length-take-le at old (omega (arith, words-next)))
 
-    first_run : (k : ℕ) → 1 ≤ k → (l : List ℕ) → take count (rept k (run old at count) ++ l) ≡ run old at count
-    unfolding rept
-    first_run zero p l = absurd (omega arith)
-    first_run (suc k) p l = rw append_assoc (take_at (run old at count) (rept k (run old at count) ++ l) count run_long)
+    -- the first of those that stand
+    first_runs : (k : ℕ) → i ≡ n + k → (l : List ℕ) → take (count * n) (rept i (run old at count) ++ l) ≡ rept n (run old at count)
+    first_runs k e l =
+        rw (e, ← rept-add n k (run old at count), append_assoc)
+        (take_at (rept n (run old at count)) (rept k (run old at count) ++ l) (count * n) (reps-long n))
 
-    source_is : take count (drop at out) ≡ run old at count
+    source_is : take (count * n) (drop at out) ≡ rept n (run old at count)
     source_is =
-        ap (λ (l : List ℕ). take count (drop at l)) (out-is ∙ append_assoc (take at old) (rept i (run old at count)) (drop to old))
-        ∙ ap (take count) (drop_at (take at old) (rept i (run old at count) ++ drop to old) at (length-take-le at old (omega (arith, words-next))))
-        ∙ first_run i g.some (drop to old)
+        ap (λ (l : List ℕ). take (count * n) (drop at l)) (out-is ∙ append_assoc (take at old) (rept i (run old at count)) (drop to old))
+        ∙ ap (take (count * n)) (drop_at (take at old) (rept i (run old at count) ++ drop to old) at (length-take-le at old (omega (arith, words-next))))
+        ∙ first_runs (i - n) (omega arith) (drop to old)
 
-    target_is : {s : List ℕ} → s ≡ paste out to (drop at out) count → s ≡ ((take at old ++ rept i (run old at count)) ++ run old at count) ++ drop (to + count) old
+    target_is : {s : List ℕ} → s ≡ paste out to (drop at out) (count * n)
+        → s ≡ ((take at old ++ rept i (run old at count)) ++ rept n (run old at count)) ++ drop (to + count * n) old
     target_is e =
         let a : take to out ≡ take at old ++ rept i (run old at count) = ap (take to) out-is ∙ take_at (take at old ++ rept i (run old at count)) (drop to old) to front_long in
-        let b : drop (to + count) out ≡ drop (to + count) old =
-        sym (drop-drop count to out) ∙ ap (drop count) (ap (drop to) out-is ∙ drop_at (take at old ++ rept i (run old at count)) (drop to old) to front_long) ∙ drop-drop count to old in
+        let b : drop (to + count * n) out ≡ drop (to + count * n) old =
+        sym (drop-drop (count * n) to out) ∙ ap (drop (count * n)) (ap (drop to) out-is ∙ drop_at (take at old ++ rept i (run old at count)) (drop to old) to front_long)
+        ∙ drop-drop (count * n) to old
+        in
         e ∙ rw (a, b, source_is)
 
-    pub repeat-more : {s : List ℕ} → s ≡ paste out (at + count * i) (drop at out) (at + count - at) → Repeating old at count times (i + 1) s
-    unfolding rept
+    pub repeat-more : {s : List ℕ} → s ≡ paste out (at + count * i) (drop at out) (at + count * n - at) → Repeating old at count times (i + n) s
     repeat-more {s} c =
-        let z : at + count - at ≡ count = omega arith in
-        let e : s ≡ paste out to (drop at out) count = rw z at c in
-        let n : count * suc i ≡ count * i + count = mul-suc count i ∙ omega arith in
-        let p : to + count ≡ at + count * suc i = omega arith in
-        let r : length (rept (suc i) (run old at count)) ≡ count * suc i = length-rept (suc i) (run old at count) ∙ ap (λ (k : ℕ). k * suc i) run_long in
-        rw add-one (record {
-          some = omega arith;
-          untouched = λ (q : times ≡ 0). absurd (omega arith);
-          long = ap length e ∙ length-paste out to (drop at out) count (omega (arith, next-room)) (simp length-drop (omega (arith, words-next, words-one))) ∙ g.long;
+        let z : at + count * n - at ≡ count * n = omega arith in
+        let e : s ≡ paste out to (drop at out) (count * n) = rw z at c in
+        let q : count * (i + n) ≡ count * i + count * n = mul-add count i n in
+        let p : to + count * n ≡ at + count * (i + n) = omega arith in
+        let r : length (rept (i + n) (run old at count)) ≡ count * (i + n) = reps-long (i + n) in
+        record {
+          some = omega (arith, g.some);
+          untouched = λ (q : times ≡ 0). absurd (omega (arith, g.some));
+          long = ap length e ∙ length-paste out to (drop at out) (count * n) (omega (arith, next-room)) (simp length-drop (omega (arith, words-next, words-some, g.long))) ∙ g.long;
           is =
               target_is e
-              ∙ rw (append_assoc (take at old) (rept i (run old at count)) (run old at count), rept-end i (run old at count), p)
-              (ap (λ (l : List ℕ). (take at old ++ l) ++ drop (at + count * suc i) old) (sym (take_all (count * suc i) (rept (suc i) (run old at count)) (omega (arith, r)))));
-        })
+              ∙ rw (append_assoc (take at old) (rept i (run old at count)) (rept n (run old at count)), rept-add i n (run old at count), p)
+              (ap (λ (l : List ℕ). (take at old ++ l) ++ drop (at + count * (i + n)) old) (sym (take_all (count * (i + n)) (rept (i + n) (run old at count)) (omega (arith, r)))));
+        }
 
-pub ruleset repeats = (rules, repeat-empty, repeat-first, repeat-all, run-room, next-room, run_fits, words_fits, next_fits, repeat-more)
+-- ---- the loop
+pub going-first : (old : List ℕ) (at count times : ℕ) → Going old at count times 1 (times - 1) old
+going-first old at count times = record { stand = repeat-first old at count times; rest = refl; few = λ h. h }
+
+module _ {old : List ℕ} {at count times i left : ℕ} {out : List ℕ} (g : Going old at count times i left out) where
+  pub going-all : left ≡ 0 → out ≡ paste old at (rept times (take count (drop at old))) (count * times)
+  going-all z = repeat-all g.stand (omega (arith, g.rest)) g.few
+
+  module _ (p : 0 < left) {n : ℕ} (e : n ≡ min i left) where
+    pub some-more : n ≤ i
+    some-more = omega arith
+
+    pub not-past : i + n ≤ times
+    not-past = omega (arith, g.rest)
+
+    pub is-less : left - n < left
+    is-less = omega (arith, g.stand.some)
+
+    pub going-more : at + count * times ≤ length old → {s : List ℕ} → s ≡ paste out (at + count * i) (drop at out) (at + count * n - at)
+        → Going old at count times (i + n) (left - n) s
+    going-more m c = record { stand = repeat-more g.stand m some-more not-past c; rest = omega (arith, g.rest); few = λ h. not-past }
+
+pub ruleset repeats = (rules, repeat-empty, going-first, going-all, some-more, not-past, is-less, run-room, next-room, runs_fit, run_fits, words_fits, next_fits)

@@ -3,7 +3,7 @@
 
 ghost use Rattle.std.specs.Prelude.{◌≡◌, ◌&&◌, ◌+◌, ◌*◌, ◌≤◌, leb, length, take, drop};
 ghost use Rattle.std.proofs.Math.Seq.{paste};
-ghost use Rattle.tree.specs.Words.{WroteCopy, WroteShift, apart, movable, rept};
+ghost use Rattle.tree.specs.Words.{WroteCopy, WroteShift, Copyable, apart, movable, rept};
 
 use definition::layout::NODE_WORDS;
 
@@ -21,12 +21,23 @@ fn both_fit(from: usize, a: usize, to: usize, at: usize, count: usize) -> bool
     fits(from, a, count) && fits(to, at, count)
 }
 
+// One word after another: an archive for C then asks for no function of the C library (`copy_from_slice` asks for `memmove`).
+#[tactic(auto, using(crate::proofs::Copies::copies))]
+fn copy_words(from: &[u32], a: usize, count: usize, out: &mut [u32], at: usize)
+    requires { Copyable (length from.now) a (length out.old) at count }
+    ensures { out.new ≡ paste out.old at (drop a from.now) count }
+{
+    for i in 0..count {
+        out[at + i] = from[a + i];
+    }
+}
+
 // Copies so many words to another slice, and answers where they end.
 pub fn copy(from: &[u32], a: usize, count: usize, out: &mut [u32], at: usize) -> Option<usize>
     ensures { WroteCopy from.now a count out.old at result out.new }
 {
     if both_fit(from.len(), a, out.len(), at, count) {
-        out[at..at + count].copy_from_slice(&from[a..a + count]);
+        copy_words(from, a, count, out, at);
         Some(at + count)
     } else {
         None
@@ -76,7 +87,13 @@ pub fn copies(out: &mut [u32], at: usize, count: usize, times: usize)
     if count == 0 {
         return;
     }
-    for i in 1..times {
-        out.copy_within(at..at + count, at + count * i);
+    let mut done = 1;
+    let mut left = times.saturating_sub(1);
+    // Those that stand are copied behind themselves, twice as many each time.
+    while left > 0 {
+        let more = done.min(left);
+        out.copy_within(at..at + count * more, at + count * done);
+        done += more;
+        left -= more;
     }
 }

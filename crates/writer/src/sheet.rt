@@ -65,8 +65,10 @@ fn write_lowest(
     requires { Passed file.now.source (length out.old) (length lines.old) (length room.old) × (length ranks.old ≡ Layout.count file.now.source Layout.types) }
     ensures { AnswersRanked file.now.source out.old result out.new }
 {
-    lowest_ranks(file, ranks)?;
-    write_ranked(file, &ranks[..], out, lines, room)
+    match lowest_ranks(file, ranks) {
+        Ok(()) => write_ranked(file, &ranks[..], out, lines, room),
+        Err(circle) => Err(Refusal::from(circle)),
+    }
 }
 
 fn write_passed(

@@ -214,7 +214,7 @@ module _ (at : ℕ) {end : ℕ} {old : List ℕ} (whole : WholeAt old (at + 6) e
             ∙ kept-before at (at + 6) mid old (omega arith) y.kept;
       }
 
-  spread-large : g ≡ Err unfit.TooLarge → Spreads k at end old (Err unbuilt.TooLarge) new
+  pub spread-large : g ≡ Err unfit.TooLarge → Spreads k at end old (Err unbuilt.TooLarge) new
   spread-large i =
       let q = grew-large (leb (suc (k * size)) most_nodes) _ z i in
       record {

@@ -1,15 +1,14 @@
 -- A law for each return of convert.rt. Assumes nothing.
 use mathlib.Core.Path.{◌≡◌, refl, ap, sym, ◌∙◌}
 use mathlib.Core.Bool.{Bool, true, false}
-use mathlib.Core.List.{List}
-use Prim.Native.Nat.{ℕ, ◌+◌}
+use mathlib.Core.List.{List, ◌++◌}
+use Prim.Native.Nat.{ℕ, ◌<◌, ◌≤◌}
 use native.Mathlib.Omega.{arith}
-use lib.Dec.{eqb, leb, ltb}
-use lib.ListN.{length}
-use lib.Seq.{paste}
+use lib.Dec.{eqb, ltb}
+use lib.ListN.{length, drop}
 use denote.Ref.{Bor}
 use borrow.Author.Rules.{rules}
-use borrow.Author.Tests.{ne_eqb, eq-eqb, eqb-true, ltb-true}
+use borrow.Author.Tests.{ne_eqb, eq-eqb, eqb-true, ltb-true, le-leb, lt-leb}
 use Rattle.definition.specs.declared.records.Shape.{Shape}
 use Rattle.definition.specs.declared.records.Constant.{Constant}
 use Rattle.definition.specs.declared.answers.Refusal.{Refusal}
@@ -29,11 +28,8 @@ use Rattle.records.specs.declared.file.File.{File}
 use Rattle.acceptance.specs.Admitted.{refusal_in, Admits}
 use Rattle.acceptance.proofs.Accepting.{holds, fails, refused}
 use Rattle.acceptance.proofs.Wanting.{at-least-one}
-use Rattle.tree.specs.Words.{Wrote, WroteNode}
-use Rattle.tree.proofs.Standing.{wrote-so-is}
 use Rattle.places.specs.Inside.{ShapeIn, shape-in}
 use Rattle.conversion.specs.Convert.{there, Both, convert_refused, value_at, convert_answer, convert_out}
-use Rattle.std.specs.Option.{ok_or}
 use Rattle.std.specs.Prelude.{None, Option, Some, Result, Ok, Err, MatchResult}
 
 -- ---- `value_at`
@@ -84,49 +80,22 @@ both_so f shape constant z = go (eqb (verdict f) 0) refl (there f shape constant
     go false p b q r = never (sym p ∙ eq-eqb (verdict f) 0 r)
 
 -- ---- `put`
-module _ {w : Option ℕ} {a : Result ℕ Refusal} (k : a ≡ ok_or w refusal.Short) where
-  some-end : {n : ℕ} → a ≡ Ok n → w ≡ Some n
-  some-end {n} i = go w k
-    where
-      go : (w : Option ℕ) → a ≡ ok_or w refusal.Short → w ≡ Some n
-      go (Some m) e = let z : m ≡ n = cc in ap Some z
-      go None e = let z : ◌≡◌ {A = ℕ} 0 1 = cc in absurd (omega arith)
+module _ (c : Constant) (out : List ℕ) where
+  pub no-room-says : length out < 6 → tree_says (Err refusal.Short) ≡ tree_answer (ok (constant_tree c)) (length out)
+  unfolding number_of tree_says tree_answer constant_tree tree-definition.leaf nodes nodes_in
+  no-room-says l = rw (lt-leb 6 (length out) l)
 
-  no_end : {y : Refusal} → a ≡ Err y → (w ≡ None) × (y ≡ refusal.Short)
-  no_end {y} i = go w k
-    where
-      go : (w : Option ℕ) → a ≡ ok_or w refusal.Short → (w ≡ None) × (y ≡ refusal.Short)
-      go (Some m) e = let z : ◌≡◌ {A = ℕ} 0 1 = cc in absurd (omega arith)
-      go None e = let z : y ≡ refusal.Short = cc in (refl, z)
+  pub no-room-keeps : length out < 6 → out ≡ over (flatten (constant_tree c)) out
+  unfolding over flatten flatten_all constant_tree tree-definition.leaf
+  no-room-keeps l = rw (lt-leb 6 (length out) l)
 
-none-wrote : (test : Bool) {old : List ℕ} {at : ℕ} {src : List ℕ} {n : ℕ} {w : Option ℕ} {new : List ℕ} → Wrote test old at src n w new → w ≡ None → (test ≡ false) × (new ≡ old)
-none-wrote true q i = let z = q.says in cc
-none-wrote false q i = (refl, q.is)
+  pub room_says : 6 ≤ length out → tree_says (Ok (Some 1)) ≡ tree_answer (ok (constant_tree c)) (length out)
+  unfolding tree_says tree_answer constant_tree tree-definition.leaf nodes nodes_in
+  room_says l = rw (le-leb 6 (length out) l)
 
-module _ (c : Constant) {out : List ℕ} {w : Option ℕ} {new : List ℕ} (x : WroteNode out 0 (flatten (constant_tree c)) w new) {a : Result ℕ Refusal} (k : a ≡ ok_or w refusal.Short) where
-  module _ {y : Refusal} (i : a ≡ Err y) where
-    full : (leb 6 (length out) ≡ false) × (new ≡ out)
-    full = none-wrote (leb 6 (length out)) x (no_end k i).0
-
-    pub full-says : {r : Result (Option ℕ) Refusal} → r ≡ Err y → tree_says r ≡ tree_answer (ok (constant_tree c)) (length out)
-    unfolding number_of tree_says tree_answer constant_tree tree-definition.leaf nodes nodes_in
-    full-says q = rw (q, (no_end k i).1, full.0)
-
-    pub full-keeps : new ≡ over (flatten (constant_tree c)) out
-    unfolding over flatten flatten_all constant_tree tree-definition.leaf
-    full-keeps = rw full.0 full.1
-
-  module _ {n : ℕ} (i : a ≡ Ok n) where
-    written : (leb 6 (length out) ≡ true) × (n ≡ 0 + 6) × (new ≡ paste out 0 (flatten (constant_tree c)) 6)
-    written = wrote-so-is (leb 6 (length out)) x (some-end k i)
-
-    pub put-says : tree_says (Ok (Some 1)) ≡ tree_answer (ok (constant_tree c)) (length out)
-    unfolding tree_says tree_answer constant_tree tree-definition.leaf nodes nodes_in
-    put-says = rw written.0
-
-    pub put-wrote : new ≡ over (flatten (constant_tree c)) out
-    unfolding over flatten flatten_all constant_tree tree-definition.leaf
-    put-wrote = rw written.0 written.2
+  pub room-wrote : 6 ≤ length out → {words : List ℕ} → words ≡ flatten (constant_tree c) → words ++ drop 6 out ≡ over (flatten (constant_tree c)) out
+  unfolding over flatten flatten_all constant_tree tree-definition.leaf
+  room-wrote l e = rw (le-leb 6 (length out) l, e)
 
 -- ---- `convert`
 module _ (f : List ℕ) (shape constant : ℕ) where
@@ -163,4 +132,4 @@ module _ (f : List ℕ) (shape constant : ℕ) where
       unfolding convert_out as_tree tree_out
       value-wrote out k = rw (z, value-of, h) k
 
-pub ruleset conversions = (rules, shape-at, value-is, both_so, no-shape, both-there, asked-by, full-says, full-keeps, put-says, put-wrote, refusal-says, refusal-keeps, none-says, none-keeps, value-says, value-wrote)
+pub ruleset conversions = (rules, shape-at, value-is, both_so, no-shape, both-there, asked-by, no-room-says, no-room-keeps, room_says, room-wrote, refusal-says, refusal-keeps, none-says, none-keeps, value-says, value-wrote)

@@ -27,7 +27,7 @@ use Rattle.definition.specs.Places.{place_of}
 use Rattle.definition.specs.Uses.{named_use, declaration_uses}
 use Rattle.definition.specs.Parts.{structured, field, is_instance}
 use Rattle.definition.specs.Defaults as Defaults
-use Rattle.definition.specs.Starting.{body_by, declaration, variable_field, elements_from, instance_from}
+use Rattle.definition.specs.Starting.{body_by, body, declaration, variable_field, elements_from, instance_from}
 use Rattle.laws.specs.Steps.{peek-give, peek-nothing}
 use Rattle.laws.specs.Accepted.{Accepted, count_most, type-points, link-in}
 use Rattle.laws.specs.Every.{Each}
@@ -41,6 +41,7 @@ use Rattle.build.specs.Built.{Built, Builds}
 use Rattle.build.specs.Leaves.{PutsLeaf}
 use Rattle.build.specs.Parts.{implicit_levels}
 use Rattle.build.proofs.Levels.{levels-some}
+use Rattle.build.proofs.defaults.Laws.{same}
 use Rattle.initial.specs.Stated.{ArrayIn, AliasIn, SpecIn, ConstantIn, StartIn, element_start, variable_start, part_start, is_part, part_ask, parts_from, PartsIn}
 use Rattle.initial.specs.Rooms.{entry_levels, parts_levels, body_levels_by, body_levels}
 use Rattle.initial.proofs.start.Laws.{constants-in, max-left, max-right}
@@ -219,6 +220,10 @@ module _ (f : List ℕ) (t : ℕ) {place : Place} (p : place ≡ place_of f t) w
     pub own_room : (at n : ℕ) → at + body_levels f t * 12288 ≤ n → at + body_levels_by f place d * 12288 ≤ n
     unfolding body_levels
     own_room at n h = rw (p, q) h
+
+    pub own_body : {index store : List ℕ} {at : ℕ} {old : List ℕ} {r : Built} {new : List ℕ} → Builds f index store flatten (body_by f t place d) at old r new → Builds f index store flatten (body f t) at old r new
+    unfolding Defaults.body
+    own_body h = same (body_by f t place d) (body f t) (rw (p, q)) h
 
 pub ruleset laws = (rules, opened, peek-nothing, structure-is, block-is, base-linked, string-value, start-in, type-fits)
 

@@ -45,6 +45,9 @@ use Rattle.initial.specs.Stated.{StatedBy, ConstantIn, array_or, members_over, S
 use Rattle.initial.proofs.Alike.{no_value_lem, leaf-builds}
 
 -- ---- a link that states something or not
+pub stated-number : {A : Type 0} (value : ℕ) (other : Unit {0} → A) (go : ℕ → A) → (value ≡ 0 → ⊥) → if_stated value other go ≡ go (value - 1)
+stated-number value other go n = let z : value ≡ suc (value - 1) = omega (arith, n) in ap (λ (i : ℕ). if_stated i other go) z
+
 module _ (link : ℕ) {o : Option ℕ} (q : SomeIff o (1 ≤ link) (link - 1)) {f index store : List ℕ} {at : ℕ} {old : List ℕ} {r : Built} {new : List ℕ} where
   module _ (answers : ℕ → Option Constant → Type 0) (other : Ask Outcome) where
     pub stated-some : {n : ℕ} → o ≡ Some n → {v : Option Constant} → answers n v → at + 6 ≤ length old → PutsLeaf v at old r new → StatedBy answers f index store link other at old r new

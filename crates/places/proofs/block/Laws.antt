@@ -23,7 +23,8 @@ use Rattle.places.specs.declared.block.Run.{Run}
 use Rattle.places.specs.Found.{block_run, run_of_block}
 use Rattle.places.specs.Links.{link_of}
 use Rattle.places.specs.Found.{found_up_to}
-use Rattle.places.proofs.Chains.{on-same}
+use Rattle.places.proofs.Chains.{on-same, chain-ends, chain-here, chain-stops, chain-next}
+use Rattle.places.proofs.Steps.{Comes, starts_at}
 
 -- ---- `has_block`
 pub has-block-is : (f : List ℕ) (t : ℕ) {w : ℕ} → w ≡ word f types t 9 → not (eqb w inline) ≡ has_block f t
@@ -31,18 +32,20 @@ unfolding has_block
 has-block-is f t e = rw e
 
 -- ---- `recorded_block`
-recorded-found : (f : List ℕ) (k t : ℕ) → found_up_to (alias_base f) (has_block f) k t ≡ recorded_up_to f k t
-unfolding found_up_to recorded_up_to
-recorded-found f zero t = refl
-recorded-found f (suc k) t = ap (pick (has_block f t) (suc t)) (on-same (alias_base f t) (λ d. recorded-found f k d))
+module _ (f : List ℕ) where
+  recorded-found : (k t : ℕ) → found_up_to (λ t. word f types t 1) (has_block f) k t ≡ recorded_up_to f k t
+  unfolding found_up_to recorded_up_to alias_base
+  recorded-found zero t = refl
+  recorded-found (suc k) t = ap (pick (has_block f t) (suc t)) (on-same (word f types t 1) (λ d. recorded-found k d))
 
-pub recorded-is : (f : List ℕ) (t : ℕ) (r : Option ℕ) {many : ℕ} → many ≡ count f types → link_of r ≡ found_up_to (alias_base f) (has_block f) many t → link_of r ≡ recorded_block f t
-unfolding recorded_block
-recorded-is f t r {many} e h = h ∙ recorded-found f many t ∙ ap (λ (n : ℕ). recorded_up_to f n t) e
+  module _ (t : ℕ) where
+    -- so many of the steps from t are done, and x is next
+    abbrev pub Left : ℕ → ℕ → ℕ → Type 0
+    Left many n x = Comes (found_up_to (λ t. word f types t 1) (has_block f)) (many - n) x (recorded_block f t)
 
-pub base-is : (f : List ℕ) (x : ℕ) (o : Option ℕ) → link_of o ≡ word f types x 1 → link_of o ≡ alias_base f x
-unfolding alias_base
-base-is f x o e = e
+    pub chain-starts : {many : ℕ} → many ≡ count f types → Left many 0 t
+    unfolding recorded_block
+    chain-starts {many} e = starts_at (found_up_to (λ t. word f types t 1) (has_block f)) many t (recorded-found many t ∙ ap (λ (n : ℕ). recorded_up_to f n t) e)
 
 -- ---- `block_field_type`
 -- a type's number leaves room for a link to it
@@ -90,3 +93,5 @@ module _ (f : List ℕ) (place : Place) where
     run-of-block z p = rw (← e, ← z, p)
 
 pub ruleset laws = (rules, has-block-is, untyped, no-block-field, block-typed, block-fits, no-type, no_block, run-of-block)
+
+pub ruleset following = (rules, chain-starts, chain-ends, chain-here, chain-stops, chain-next)

@@ -11,10 +11,8 @@ use Rattle.definition.specs.declared.records.Shape.{Shape}
 use Rattle.definition.specs.declared.records.Shape.TheVariants as shape
 use Rattle.definition.specs.declared.records.Place.{Place}
 use Rattle.definition.specs.Base.{on_link, inline}
-use Rattle.definition.specs.Layout.{word, count, shapes, shape_fields, variables, most_records, limits_of_records}
-use Rattle.definition.specs.declared.records.Initializer.{Initializer}
-use Rattle.definition.specs.declared.records.Initializer.TheVariants as init
-use Rattle.definition.specs.Records.{shape_at, initializer_kind, initializer_at}
+use Rattle.definition.specs.Layout.{word, count, shapes, shape_fields, variables, initializers, most_records, limits_of_records}
+use Rattle.definition.specs.Records.{shape_at, initializer_kind}
 use Rattle.definition.specs.Ask.{Result, ok, none}
 use Rattle.definition.specs.Shapes.{on_shape}
 use Rattle.definition.specs.Places.{bare, place_of, typed_place, first_named, block_field_type, field_declaration, declared_type, declared_element, structure_field_place, field_place, string_place, variable_place}
@@ -30,7 +28,6 @@ use Rattle.places.specs.Found.{linked_place, structure_field, block_field, strin
 use Rattle.places.specs.Inside.{PlaceIn, FieldsIn, structure-fields}
 use Rattle.places.specs.Links.{link_of}
 use Rattle.places.proofs.Others.{NoFields, no_fields}
-use Rattle.places.proofs.Views.{string-at, string-view}
 
 -- ---- types of a place
 pub linked-type : (f : List ℕ) (l : ℕ) → Link (IsType f) l → (l ≡ 0 → ⊥) → IsType f (l - 1)
@@ -143,14 +140,14 @@ module _ (f : List ℕ) {l : ℕ} where
   unfolding linked_place
   a-place z h = rw (← z, h)
 
-module _ (f : List ℕ) (v i : ℕ) {start : Initializer} (is : start ≡ initializer_at f i) {r : Result Place} where
-  pub by-string : {value length width : ℕ} → start ≡ init.String value length width → r ≡ string_of length width → r ≡ variable_place f v i
-  unfolding variable_place string_place string_of
-  by-string e h = let s = string-view f i (sym is ∙ e) in rw (s.0, s.1, s.2) h
+module _ (f : List ℕ) (v i : ℕ) {kind : ℕ} (is : kind ≡ word f initializers i 0) {r : Result Place} where
+  pub by-string : kind ≡ 4 → {length width : ℕ} → length ≡ word f initializers i 6 → width ≡ word f initializers i 7 → r ≡ string_of length width → r ≡ variable_place f v i
+  unfolding variable_place string_place string_of initializer_kind
+  by-string k l w h = rw (← is, eq-eqb kind 4 k, ← l, ← w) h
 
-  pub by-type : ((value length width : ℕ) → start ≡ init.String value length width → ⊥) → r ≡ linked_place f (word f variables v 2) → r ≡ variable_place f v i
-  unfolding variable_place linked_place
-  by-type n h = rw (ne_eqb (initializer_kind f i) 4 (λ e. n _ _ _ (is ∙ string-at f i e))) h
+  pub by-type : (kind ≡ 4 → ⊥) → r ≡ linked_place f (word f variables v 2) → r ≡ variable_place f v i
+  unfolding variable_place linked_place initializer_kind
+  by-type n h = rw (← is, ne_eqb kind 4 n) h
 
 pub ruleset laws =
     (rules, led-type, place-linked, no_type, a_type, undeclared, declared, declared-linked, fields_fit, no_field, a-field, field-shape, no-block, no-block-field, a-block-field, structure-fields, of-structure, of-block, of_other, no_length, a-length, no_place, a-place, by-string, by-type)

@@ -4,7 +4,7 @@ use mathlib.Core.Bool.{Bool, true, false, ◌&&◌}
 use Prim.Native.Nat.{ℕ, zero, suc, ◌-◌, ◌^◌}
 use native.Mathlib.Omega.{arith}
 use borrow.Author.Rules.{rules}
-use lib.Dec.{leb, eqb, leb-zero, leb-suc-suc, leb-suc-zero}
+use lib.Dec.{leb, eqb, leb-zero, leb-suc-suc, leb-suc-zero, eqb-suc-zero}
 use lib.IntN.{ℤ, pos, neg_ℤ}
 use lib.Signed.{le_z}
 use mir.Syntax.{w64}
@@ -100,4 +100,38 @@ module _ (signed : Bool) (bits : ℕ) (b : is_bits bits ≡ true) where
           let is-greatest : pos x.1 ≡ greatest signed bits = ap highest_in are-bounds in
           rw (← negative_is, q, ← is-size, least-below signed bits n, ← is-greatest)
 
+-- ---- `at_most`
+le-zeros : (n : ℕ) → eqb n 0 ≡ le_z (pos 0) (neg_ℤ (pos n))
+le-zeros zero = refl
+le-zeros (suc n) = eqb-suc-zero n
+
+le-back : (m n : ℕ) → (m ≡ 0 → ⊥) → false ≡ le_z (pos m) (neg_ℤ (pos n))
+le-back zero n h = absurd (h refl)
+le-back (suc m) zero h = sym (leb-suc-zero m)
+le-back (suc m) (suc n) h = refl
+
+module _ (a b : Constant) {s t : Bool} (sa : s ≡ eqb a.sign 1) (sb : t ≡ eqb b.sign 1) where
+  pub at-most-across : s ≡ true → t ≡ false → true ≡ le_z (value_of a) (value_of b)
+  unfolding value_of number
+  at-most-across p q = rw (← sa, ← sb, p, q) (le-across (size_of a) (size_of b))
+
+  pub at-most-back : {m : ℕ} → m ≡ size_of a → s ≡ false → t ≡ true → (m ≡ 0 → ⊥) → false ≡ le_z (value_of a) (value_of b)
+  unfolding value_of number
+  at-most-back ma p q h = rw (← sa, ← sb, p, q, ← ma) (le-back _ (size_of b) h)
+
+  module _ {m n : ℕ} (ma : m ≡ size_of a) (nb : n ≡ size_of b) where
+    pub at-most-negative : s ≡ true → t ≡ true → leb n m ≡ le_z (value_of a) (value_of b)
+    unfolding value_of number
+    at-most-negative p q = rw (← sa, ← sb, p, q, ← ma, ← nb) (le-negatives m n)
+
+    pub at-most-zeros : s ≡ false → t ≡ true → m ≡ 0 → eqb n 0 ≡ le_z (value_of a) (value_of b)
+    unfolding value_of number
+    at-most-zeros p q z = rw (← sa, ← sb, p, q, ← ma, z, ← nb) (le-zeros n)
+
+    pub at-most-plain : s ≡ false → t ≡ false → leb m n ≡ le_z (value_of a) (value_of b)
+    unfolding value_of number
+    at-most-plain p q = rw (← sa, ← sb, p, q, ← ma, ← nb)
+
 pub ruleset laws = (rules, fits-unlisted, fits_below, fits-above)
+
+pub ruleset at_most = (rules, at-most-across, at-most-back, at-most-negative, at-most-zeros, at-most-plain)

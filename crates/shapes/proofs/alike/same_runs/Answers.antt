@@ -1,15 +1,6 @@
 -- `alike::same_runs` meets its contract. Assumes nothing.
-use mathlib.Core.Path.{refl}
-use borrow.Author.Rules.{rules}
-use native.Mathlib.Omega.{arith}
-use Rattle.shapes.proofs.Comparing.{runs-are}
-use Rattle.records.proofs.Ranging.{every-in-range}
+use Rattle.shapes.proofs.Comparing.{listed-at}
 use Rattle.shapes.proofs.alike.same_runs.Goals as goal
 
 pub returns : goal.returns
-returns g c =
-    record {
-      is = λ same h.
-          rw (← c.word-a.ensures, ← c.word-many.ensures, ← c.word-b.ensures, ← c.word-others.ensures)
-          (runs-are _ _ _ _ _ (omega arith) (every-in-range _ _ _ c.word-many.result _ c.all.ensures.ran refl (λ x b q k. search (rules, h))));
-    }
+returns g c = listed-at c.word-a.ensures c.word-many.ensures c.word-b.ensures c.word-others.ensures c.same_run.ensures

@@ -3,7 +3,7 @@ use Prim.Native.Nat.{ℕ, ◌+◌, ◌*◌, ◌^◌, ◌≤◌}
 use mathlib.Core.Path.{◌≡◌}
 use native.Mathlib.Omega.{arith}
 use Rattle.definition.specs.Layout.{record_words}
-use Rattle.records.proofs.Starting.{words_of, start-most, word-is}
+use Rattle.records.proofs.Starting.{words_of, word-there}
 use Rattle.records.proofs.source.Source.run_word.Goals as goal
 
 -- how far into its section the record stands
@@ -16,14 +16,14 @@ overflow_mul-number c = omega (arith, near (c.args.first + c.args.j) c.args.sect
 pub overflow_add-at-2 : goal.overflow_add-at-2
 overflow_add-at-2 c =
     omega
-    (arith, start-most c.self.invariant c.args.section (omega arith) (omega arith), near (c.args.first + c.args.j) c.args.section c.record_words.ensures (omega arith))
+    (arith, c.start-at.ensures.near, near (c.args.first + c.args.j) c.args.section c.record_words.ensures (omega arith))
 
 pub overflow_add-at-3 : goal.overflow_add-at-3
 overflow_add-at-3 c =
     omega
-    (arith, start-most c.self.invariant c.args.section (omega arith) (omega arith), near (c.args.first + c.args.j) c.args.section c.record_words.ensures (omega arith))
+    (arith, c.start-at.ensures.near, near (c.args.first + c.args.j) c.args.section c.record_words.ensures (omega arith))
 
 pub returns : goal.returns
 returns c =
-    rw (← c.self.view_is)
-    (word-is c.self.invariant c.args.section (omega arith) (c.args.first + c.args.j) c.args.place c.record_words.result c.record_words.ensures c.word_at.ensures)
+    word-there _ c.args.section c.start-at.ensures.is (c.args.first + c.args.j) c.args.place c.record_words.result c.record_words.ensures
+    (rw c.self.view_is at c.word_at.ensures)
